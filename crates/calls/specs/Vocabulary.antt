@@ -1,0 +1,21 @@
+-- The words of a log as bytes. Assumes nothing.
+--   nameOf w     how the word w is written
+--   Reads s w    w is what s says: the word that is written so, or Unknown where none is
+use Prim.Native.Nat.{ℕ}
+use mathlib.Core.Path.{_≡_}
+use mathlib.Core.Logic.{_⊎_}
+use mathlib.Core.List.{List, [], _∷_}
+use Rattle.calls.specs.declared.vocabulary.Word.{Word}
+use Rattle.calls.specs.declared.vocabulary.Word.the-variants.{List as ListWord, Plant, Check, Part, Fact, Unknown}
+
+-- `list`, `plant`, `check`, `part`, `fact`; no bytes are the name of no call
+abbrev pub nameOf : Word → List ℕ
+nameOf ListWord = 108 ∷ 105 ∷ 115 ∷ 116 ∷ []
+nameOf Plant = 112 ∷ 108 ∷ 97 ∷ 110 ∷ 116 ∷ []
+nameOf Check = 99 ∷ 104 ∷ 101 ∷ 99 ∷ 107 ∷ []
+nameOf Part = 112 ∷ 97 ∷ 114 ∷ 116 ∷ []
+nameOf Fact = 102 ∷ 97 ∷ 99 ∷ 116 ∷ []
+nameOf Unknown = []
+
+abbrev pub Reads : List ℕ → Word → Type 0
+Reads s w = (s ≡ nameOf w) ⊎ ((w ≡ Unknown) × ((v : Word) → s ≡ nameOf v → v ≡ Unknown))

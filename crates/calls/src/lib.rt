@@ -1,0 +1,143 @@
+// The calls of a log, one line each: what a line asks for, and the text of its answer.
+//
+// A line is ruled on first (`rule_line`), which may change the plant and writes nothing; then its answer is
+// written (`put_answer`). A new call is a word of `vocabulary`, an arm of `change` or `answer` here, and an arm of
+// `put_answer` where it answers in a new form.
+mod answers;
+mod faults;
+mod vocabulary;
+
+pub use answers::Answer;
+pub use answers::ends;
+pub use answers::put_answer;
+pub use faults::Fault;
+pub use faults::put_fault;
+ghost use mathlib.Core.Path.{_≡_};
+ghost use Prim.Native.Nat.{_≤_};
+ghost use lib.ListN.{length};
+use offer::rule_facts;
+use plant::check_plant;
+use text::Decoded;
+use text::Number;
+use text::count;
+use text::decode_hex;
+use text::find;
+use text::least;
+use text::read_number;
+use vocabulary::Word;
+use vocabulary::arguments;
+use vocabulary::word_of;
+
+// The most bytes that a plant file or an offer has in a log.
+pub const MOST_BYTES: usize = 16384;
+
+// What a line leaves: how many bytes the plant file has from now on, and the answer.
+pub struct Ruled {
+    pub plant: usize,
+    pub answer: Answer,
+}
+
+// Rules on a line. The plant file is the first `have` bytes of `plant`, into which a new one is put.
+pub fn rule_line(line: &[u8], plant: &mut [u8], have: usize) -> Ruled
+    ensures { λ r. ⌜ r .plant ≤ length (now (plant .exit)) ⌝ }
+{
+    let have = least(have, plant.len());
+    if is_passed_over(line) {
+        return result(have, Answer::Nothing);
+    }
+    let end = find(line, b' ');
+    let word = word_of(&line[0..end]);
+    let blanks = count(line, b' ');
+    let wanted = arguments(word, blanks);
+    if blanks < wanted {
+        return result(have, Answer::Wrong(Fault::MissingWord));
+    }
+    if wanted < blanks {
+        return result(have, Answer::Wrong(Fault::ExtraWord));
+    }
+    let from = least(end + 1, line.len());
+    change(word, &line[from..], plant, have)
+}
+
+fn result(plant: usize, answer: Answer) -> Ruled
+    ensures { λ r. ⌜ r .plant ≡ plant ⌝ }
+{
+    Ruled { plant, answer }
+}
+
+// An empty line or a comment.
+fn is_passed_over(line: &[u8]) -> bool {
+    if line.len() == 0 {
+        return true;
+    }
+    line[0] == b'#'
+}
+
+// The calls that change what the log is replayed on. Every other call only answers.
+fn change(word: Word, argument: &[u8], plant: &mut [u8], have: usize) -> Ruled
+    requires { ⌜ have ≤ length (now plant) ⌝ }
+    ensures { λ r. ⌜ r .plant ≤ length (now (plant .exit)) ⌝ }
+{
+    match word {
+        Word::List => result(0, list_answer(argument)),
+        Word::Plant => set_plant(argument, plant),
+        _ => result(have, answer(word, argument, &plant[0..have])),
+    }
+}
+
+fn answer(word: Word, argument: &[u8], plant: &[u8]) -> Answer {
+    match word {
+        Word::Check => Answer::Ruling(check_plant(plant)),
+        Word::Part => part_answer(argument),
+        Word::Fact => fact_answer(argument, plant),
+        _ => Answer::Wrong(Fault::UnknownWord),
+    }
+}
+
+// A list begins with no plant file.
+fn list_answer(name: &[u8]) -> Answer {
+    if name.len() == 0 {
+        return Answer::Wrong(Fault::NoName);
+    }
+    Answer::Line
+}
+
+// Puts the new plant file in the place of the old one.
+fn set_plant(hex: &[u8], plant: &mut [u8]) -> Ruled
+    ensures { λ r. ⌜ r .plant ≤ length (now (plant .exit)) ⌝ }
+{
+    let room = least(MOST_BYTES, plant.len());
+    let bytes = decode_hex(hex, &mut plant[0..room]);
+    let Decoded::Bytes(n) = bytes else {
+        return result(0, Answer::Wrong(hex_fault(bytes)));
+    };
+    result(n, Answer::Nothing)
+}
+
+fn part_answer(number: &[u8]) -> Answer {
+    let Number::Value(action) = read_number(number) else {
+        return Answer::Wrong(Fault::BadNumber);
+    };
+    Answer::Part(action)
+}
+
+fn fact_answer(hex: &[u8], plant: &[u8]) -> Answer {
+    let mut offer = [0u8; MOST_BYTES];
+    let bytes = decode_hex(hex, &mut offer);
+    let Decoded::Bytes(n) = bytes else {
+        return Answer::Wrong(hex_fault(bytes));
+    };
+    let end = least(n, offer.len());
+    Answer::Ruling(rule_facts(plant, &offer[0..end]))
+}
+
+// The fault of a word that is no hex. Bytes are none, and nobody asks for theirs.
+fn hex_fault(bytes: Decoded) -> Fault {
+    match bytes {
+        Decoded::Bytes(_) => Fault::ManyBytes,
+        Decoded::Empty => Fault::NoBytes,
+        Decoded::Odd => Fault::OddHex,
+        Decoded::BadDigit => Fault::BadHex,
+        Decoded::NoRoom => Fault::ManyBytes,
+    }
+}

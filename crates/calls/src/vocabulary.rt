@@ -1,0 +1,43 @@
+// The words that a line can begin with.
+ghost use Rattle.calls.specs.Vocabulary.{Reads};
+use check::same;
+
+pub enum Word {
+    List,
+    Plant,
+    Check,
+    Part,
+    Fact,
+    Unknown,
+}
+
+pub fn word_of(s: &[u8]) -> Word
+    ensures { λ r. ⌜ Reads (now (s .entry)) r ⌝ }
+{
+    if same(s, b"list") {
+        return Word::List;
+    }
+    if same(s, b"plant") {
+        return Word::Plant;
+    }
+    if same(s, b"check") {
+        return Word::Check;
+    }
+    if same(s, b"part") {
+        return Word::Part;
+    }
+    if same(s, b"fact") {
+        return Word::Fact;
+    }
+    Word::Unknown
+}
+
+// How many words follow the first, on a line with so many blanks. After an unknown word any number will do, so
+// that the fault that is named is the word.
+pub fn arguments(word: Word, blanks: usize) -> usize {
+    match word {
+        Word::Check => 0,
+        Word::Unknown => blanks,
+        _ => 1,
+    }
+}

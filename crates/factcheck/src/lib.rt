@@ -1,0 +1,14 @@
+// The fact check as the search calls it, from C (include/snipefeather.h).
+use offer::rule_facts;
+use rulings::number;
+ghost use mathlib.Core.Path.{_≡_};
+ghost use Rattle.rulings.specs.Answer.{numberOf};
+ghost use Rattle.offer.specs.Offer.{factCheck};
+
+// 0, or the number of the first of refusals 1 to 4 and 7 to 13.
+#[no_mangle]
+pub extern "C" fn sf_fact_check(plant: &[u8], offer: &[u8]) -> u32
+    ensures { λ r. ⌜ r ≡ numberOf (factCheck (now (plant .entry)) (now (offer .entry))) ⌝ }
+{
+    number(rule_facts(plant, offer))
+}

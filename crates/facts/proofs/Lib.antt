@@ -1,0 +1,4 @@
+pub mod Bools
+pub mod Step
+pub mod Theorem
+pub mod Thirteen

@@ -1,0 +1,31 @@
+use Rattle.facts.specs.Regression.{backOver}
+use Prim.Native.Nat.{_-_}
+use borrow.Author.Needs.{needs}
+use Rattle.facts.proofs.back_over.Statement.{statement}
+use Rattle.facts.proofs.back_over.Tie as tie
+
+is-undoing-requires : tie.Need-is-undoing-requires
+is-undoing-requires c κs = search needs
+
+returns : tie.Need-returns
+unfolding backOver
+returns c = simp (← c .before .is-undoing .ensures, c .if1 .taken)
+
+regress-requires : tie.Need-regress-requires
+regress-requires c κs = search needs
+
+overlap-requires : tie.Need-overlap-requires
+overlap-requires c κs = search needs
+
+returns-2 : tie.Need-returns-2
+unfolding backOver
+returns-2 c = simp (← c .before .before .before .before .is-undoing .ensures, c .before .before .before .if1 .left, ← c .before .before .regress .ensures, ← c .before .overlap .ensures, c .if2 .taken)
+
+returns-3 : tie.Need-returns-3
+unfolding backOver
+returns-3 c = simp (← c .before .before .before .before .is-undoing .ensures, c .before .before .before .if1 .left, ← c .before .before .regress .ensures, ← c .before .overlap .ensures, c .if2 .left)
+
+pub back-over-spec : {M : Type 1} → statement M
+back-over-spec =
+    tie.close
+    (tie.spec is-undoing-requires returns regress-requires overlap-requires returns-2 returns-3)

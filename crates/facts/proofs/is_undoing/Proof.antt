@@ -1,0 +1,22 @@
+use Rattle.facts.specs.Regression.{undoes}
+use Prim.Native.Nat.{_-_}
+use borrow.Author.Needs.{needs}
+use Rattle.facts.proofs.is_undoing.Statement.{statement}
+use Rattle.facts.proofs.is_undoing.Tie as tie
+
+overlap-requires : tie.Need-overlap-requires
+overlap-requires c κs = search needs
+
+returns : tie.Need-returns
+unfolding undoes
+returns c = simp (← c .before .overlap .ensures, c .if1 .taken)
+
+overlap-requires-2 : tie.Need-overlap-requires-2
+overlap-requires-2 c κs = search needs
+
+returns-2 : tie.Need-returns-2
+unfolding undoes
+returns-2 c = simp (← c .before .before .overlap .ensures, c .before .if1 .left, ← c .overlap2 .ensures)
+
+pub is-undoing-spec : {M : Type 1} → statement M
+is-undoing-spec = tie.close (tie.spec overlap-requires returns overlap-requires-2 returns-2)

@@ -1,0 +1,2 @@
+pub mod Regression
+pub mod Forward

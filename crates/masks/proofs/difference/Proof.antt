@@ -1,0 +1,11 @@
+use borrow.Author.Needs.{needs}
+use Rattle.masks.specs.Mask.{strike}
+use Rattle.masks.proofs.difference.Statement.{statement}
+use Rattle.masks.proofs.difference.Tie as tie
+
+returns : tie.Need-returns
+unfolding strike
+returns c = search needs
+
+pub difference-spec : {M : Type 1} → statement M
+difference-spec = tie.close (tie.spec returns)

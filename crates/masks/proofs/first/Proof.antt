@@ -1,0 +1,11 @@
+use borrow.Author.Needs.{needs}
+use Rattle.masks.specs.Mask.{lowest}
+use Rattle.masks.proofs.first.Statement.{statement}
+use Rattle.masks.proofs.first.Tie as tie
+
+returns : tie.Need-returns
+unfolding lowest
+returns c = search needs
+
+pub first-spec : {M : Type 1} → statement M
+first-spec = tie.close (tie.spec returns)

@@ -1,0 +1,11 @@
+use borrow.Author.Needs.{needs}
+use Rattle.masks.specs.Mask.{share}
+use Rattle.masks.proofs.overlap.Statement.{statement}
+use Rattle.masks.proofs.overlap.Tie as tie
+
+returns : tie.Need-returns
+unfolding share
+returns c = search needs
+
+pub overlap-spec : {M : Type 1} → statement M
+overlap-spec = tie.close (tie.spec returns)

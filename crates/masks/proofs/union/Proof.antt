@@ -1,0 +1,11 @@
+use borrow.Author.Needs.{needs}
+use Rattle.masks.specs.Mask.{join}
+use Rattle.masks.proofs.union.Statement.{statement}
+use Rattle.masks.proofs.union.Tie as tie
+
+returns : tie.Need-returns
+unfolding join
+returns c = search needs
+
+pub union-spec : {M : Type 1} → statement M
+union-spec = tie.close (tie.spec returns)

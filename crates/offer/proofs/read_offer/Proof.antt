@@ -1,0 +1,31 @@
+use borrow.Author.Tests.{lt-ltb, le-ltb}
+use Rattle.offer.specs.Offer.{offerRuling}
+use Prim.Native.Nat.{_-_}
+use borrow.Author.Needs.{needs}
+use Rattle.offer.proofs.read_offer.Statement.{statement}
+use Rattle.offer.proofs.read_offer.Tie as tie
+
+returns : tie.Need-returns
+unfolding offerRuling
+returns c = simp (lt-ltb _ _ (c .if1 .taken))
+
+u32-at-requires : tie.Need-u32-at-requires
+u32-at-requires c κs = search needs
+
+returns-2 : tie.Need-returns-2
+unfolding offerRuling
+returns-2 c = simp (le-ltb _ _ (c .before .before .if1 .left), ← c .before .u32-at .ensures, lt-ltb _ _ (c .if2 .taken))
+
+returns-3 : tie.Need-returns-3
+unfolding offerRuling
+returns-3 c = simp (le-ltb _ _ (c .before .before .before .if1 .left), ← c .before .before .u32-at .ensures, le-ltb _ _ (c .before .if2 .left), lt-ltb _ _ (c .if3 .taken))
+
+read-steps-requires : tie.Need-read-steps-requires
+read-steps-requires c κs = search needs
+
+returns-4 : tie.Need-returns-4
+returns-4 c = search needs
+
+pub read-offer-spec : {M : Type 1} → statement M
+read-offer-spec =
+    tie.close (tie.spec returns u32-at-requires returns-2 returns-3 read-steps-requires returns-4)

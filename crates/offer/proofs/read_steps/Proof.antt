@@ -1,0 +1,73 @@
+use Rattle.rulings.specs.declared.Ruling.the-variants.{Accepted}
+use Rattle.rulings.specs.Order.{firstRefusal, refusalOf}
+use Rattle.rulings.proofs.Laws.{first-none, reading-stops, reading-goes-on}
+use Rattle.offer.specs.Offer.{stepStart, stepRuling}
+use Rattle.offer.proofs.Steps.{first-start, ruling-is, next-start, steps-refused, steps-end, left-over}
+use Prim.Native.Nat.{_≤_, _-_}
+use mathlib.Core.Path.{_≡_, _∙_, ap}
+use native.Mathlib.Omega.{arith}
+use lib.ListN.{length}
+use borrow.Author.Needs.{needs}
+use Rattle.offer.proofs.read_steps.Statement.{statement}
+use Rattle.offer.proofs.read_steps.Tie as tie
+
+abbrev Inv-loop : tie.InvT-loop
+Inv-loop plant t offer count at₀ step₀ at step = (step ≤ count) × (at ≤ length offer) × (at ≡ stepStart plant offer step) × (firstRefusal (stepRuling plant offer) step ≡ Accepted)
+
+abbrev μ-loop : tie.MeasureT-loop
+μ-loop plant t offer count at₀ step₀ at step = count - step
+
+loop-holds : tie.Need-loop-holds Inv-loop μ-loop
+loop-holds c = (omega arith, c .before .before .pre .2, first-start _ _, first-none _)
+
+read-step-requires : tie.Need-read-step-requires Inv-loop μ-loop
+read-step-requires c κs = (c .before .before .before .before .pre .0, c .before .before .before .before .pre .1, c .before .loop .inv .1)
+
+enum-known-answer : tie.Need-enum-known-answer Inv-loop μ-loop
+enum-known-answer c = search needs
+
+enum-told : tie.Need-enum-told Inv-loop μ-loop
+enum-told c = search needs
+
+refusal-requires : tie.Need-refusal-requires Inv-loop μ-loop
+refusal-requires c κs = search needs
+
+returns : tie.Need-returns Inv-loop μ-loop
+returns c = let here = ruling-is _ _ _ _ _ (c .before .before .before .before .before .loop .inv .2) (c .before .before .before .read-step .ensures) in
+    c .refusal .ensures ∙ ap refusalOf (c .before .enum-told .given .1)
+    ∙ steps-refused _ _ _ (c .before .before .before .before .before .before .before .before .pre .2) (c .before .before .before .before .before .before .before .before .pre .3) (c .before .before .before .before .before .before .before .before .pre .4) (c .before .before .before .before .before .before .before .before .pre .5) _ (reading-stops _ _ _ (c .before .before .before .before .before .loop .inv .3) here _ _ (c .before .enum-told .given .1) (c .before .before .before .before .loop-test .taken))
+
+add-step : tie.Need-add-step Inv-loop μ-loop
+add-step c = omega arith
+
+loop-less : tie.Need-loop-less Inv-loop μ-loop
+loop-less c = omega arith
+
+loop-again : tie.Need-loop-again Inv-loop μ-loop
+loop-again c = let here = ruling-is _ _ _ _ _ (c .before .before .before .before .before .loop .inv .2) (c .before .before .before .read-step .ensures) in
+    let next = next-start _ _ _ _ _ (c .before .before .before .before .before .loop .inv .2) (c .before .before .before .read-step .ensures) _ (c .before .answer .given .1) in
+    (omega arith, next .0, next .1, reading-goes-on _ _ _ (c .before .before .before .before .before .loop .inv .3) here _ (c .before .answer .given .1))
+
+returns-2 : tie.Need-returns-2 Inv-loop μ-loop
+returns-2 c = steps-end _ _ _ (c .before .before .before .before .before .pre .2) (c .before .before .before .before .before .pre .3) (c .before .before .before .before .before .pre .4) (c .before .before .before .before .before .pre .5) _ _ (omega arith) (c .before .before .loop .inv .3) (c .before .before .loop .inv .2) (c .if1 .taken)
+
+returns-3 : tie.Need-returns-3 Inv-loop μ-loop
+returns-3 c = left-over _ _ _ (c .before .before .before .before .before .pre .2) (c .before .before .before .before .before .pre .3) (c .before .before .before .before .before .pre .4) (c .before .before .before .before .before .pre .5) _ _ (omega arith) (c .before .before .loop .inv .3) (c .before .before .loop .inv .2) (c .if1 .left)
+
+pub read-steps-spec : {M : Type 1} → statement M
+read-steps-spec =
+    tie.close
+    (tie.spec
+    Inv-loop
+    μ-loop
+    loop-holds
+    read-step-requires
+    enum-known-answer
+    enum-told
+    refusal-requires
+    returns
+    add-step
+    loop-less
+    loop-again
+    returns-2
+    returns-3)

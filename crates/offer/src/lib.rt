@@ -1,0 +1,174 @@
+// The offer: refusals 7 to 10, and the fact check of the chain that it names.
+use facts::Action;
+use facts::Literals;
+use facts::Need;
+use facts::at_start;
+use facts::back_over;
+use masks::overlap;
+use plant::Trailer;
+use plant::allocation_count;
+use plant::check_plant;
+use plant::read_trailer;
+use plant::start_of;
+use rulings::Cause;
+use rulings::Record;
+use rulings::Ruling;
+use rulings::refusal;
+use words::u32_at;
+ghost use mathlib.Core.Path.{_≡_};
+ghost use Prim.Native.Nat.{_+_, _*_, _≤_, _<_, _^_};
+ghost use lib.ListN.{length};
+ghost use Rattle.plant.specs.Plant.{plantRuling, trailerOf};
+ghost use Rattle.facts.specs.Regression.{workBack};
+ghost use Rattle.offer.specs.Offer.{knownOf, goalOf, stepCount, stepStart, stepAt, offerRuling, actionOf, chainFrom, chainRuling, factCheck};
+
+// The facts known of the sheet.
+fn read_known(offer: &[u8]) -> Literals
+    requires { ⌜ 24 ≤ length (now offer) ⌝ }
+    ensures { λ r. ⌜ r ≡ knownOf (now (offer .entry)) ⌝ }
+{
+    Literals {
+        pos: u32_at(offer, 4),
+        neg: u32_at(offer, 8),
+    }
+}
+
+// The facts wanted of it at the end.
+fn read_goal(offer: &[u8]) -> Literals
+    requires { ⌜ 24 ≤ length (now offer) ⌝ }
+    ensures { λ r. ⌜ r ≡ goalOf (now (offer .entry)) ⌝ }
+{
+    Literals {
+        pos: u32_at(offer, 12),
+        neg: u32_at(offer, 16),
+    }
+}
+
+// Reads the step that starts at `at`: 8, or where it ends.
+fn read_step(plant: &[u8], t: Trailer, offer: &[u8], step: u32, at: usize) -> Record
+    requires { ⌜ (plantRuling (now plant) ≡ Ruling.Accepted) × (t ≡ trailerOf (now plant)) × (at ≤ length (now offer)) ⌝ }
+    ensures { λ r. ⌜ r ≡ stepAt (now (plant .entry)) (now (offer .entry)) step at ⌝ }
+{
+    if offer.len() - at < 4 {
+        return Record::Fails(Cause::Step(8, step));
+    }
+    let action = u32_at(offer, at);
+    if t.count <= action {
+        return Record::Fails(Cause::Step(8, step));
+    }
+    let n = allocation_count(plant, t, action);
+    if offer.len() - at < 4 + 4 * n {
+        return Record::Fails(Cause::Step(8, step));
+    }
+    Record::Ends(at + 4 + 4 * n)
+}
+
+// Reads the steps one after the other. The first that fails ends the reading; then 9.
+fn read_steps(plant: &[u8], t: Trailer, offer: &[u8], count: u32) -> Ruling
+    requires { ⌜ (plantRuling (now plant) ≡ Ruling.Accepted) × (t ≡ trailerOf (now plant)) × (24 ≤ length (now offer)) × (count ≡ stepCount (now offer)) × (1 ≤ count) × (count ≤ 8) ⌝ }
+    ensures { λ r. ⌜ r ≡ offerRuling (now (plant .entry)) (now (offer .entry)) ⌝ }
+{
+    let mut at = 24;
+    let mut step = 0;
+    while step < count {
+        let answer = read_step(plant, t, offer, step, at);
+        let Record::Ends(end) = answer else {
+            return refusal(answer);
+        };
+        at = end;
+        step += 1;
+    }
+    if at == offer.len() {
+        return Ruling::Accepted;
+    }
+    Ruling::Refused(Cause::Plain(9))
+}
+
+// The first of refusals 7 to 9, for a good plant.
+pub fn read_offer(plant: &[u8], t: Trailer, offer: &[u8]) -> Ruling
+    requires { ⌜ (plantRuling (now plant) ≡ Ruling.Accepted) × (t ≡ trailerOf (now plant)) ⌝ }
+    ensures { λ r. ⌜ r ≡ offerRuling (now (plant .entry)) (now (offer .entry)) ⌝ }
+{
+    if offer.len() < 24 {
+        return Ruling::Refused(Cause::Plain(7));
+    }
+    let count = u32_at(offer, 20);
+    if count < 1 {
+        return Ruling::Refused(Cause::Plain(7));
+    }
+    if 8 < count {
+        return Ruling::Refused(Cause::Plain(7));
+    }
+    read_steps(plant, t, offer, count)
+}
+
+// What an action of a good plant needs and makes.
+fn action_at(plant: &[u8], t: Trailer, action: u32) -> Action
+    requires { ⌜ (plantRuling (now plant) ≡ Ruling.Accepted) × (t ≡ trailerOf (now plant)) × (action < t .count) ⌝ }
+    ensures { λ r. ⌜ r ≡ actionOf (now (plant .entry)) action ⌝ }
+{
+    let at = start_of(plant, t, action);
+    Action {
+        needs: Literals {
+            pos: u32_at(plant, at),
+            neg: u32_at(plant, at + 4),
+        },
+        makes: Literals {
+            pos: u32_at(plant, at + 8),
+            neg: u32_at(plant, at + 12),
+        },
+    }
+}
+
+// What must hold before the last `left` steps, the first of which is number `step` and starts at `at`. The later steps come first.
+fn work_back(plant: &[u8], t: Trailer, offer: &[u8], left: u32, step: u32, at: usize) -> Need
+    requires { ⌜ (plantRuling (now plant) ≡ Ruling.Accepted) × (t ≡ trailerOf (now plant)) × (offerRuling (now plant) (now offer) ≡ Ruling.Accepted) × (step + left ≡ stepCount (now offer)) × (at ≡ stepStart (now plant) (now offer) step) ⌝ }
+    ensures { λ r. ⌜ r ≡ workBack (chainFrom (now (plant .entry)) (now (offer .entry)) step left) step (goalOf (now (offer .entry))) ⌝ }
+{
+    if left == 0 {
+        return Need::Facts(read_goal(offer));
+    }
+    let action = u32_at(offer, at);
+    let n = allocation_count(plant, t, action);
+    let later = work_back(plant, t, offer, left - 1, step + 1, at + 4 + 4 * n);
+    let Need::Facts(need) = later else {
+        return later;
+    };
+    back_over(action_at(plant, t, action), step, need)
+}
+
+// The first of refusals 10 to 13, for an offer that passed 7 to 9.
+pub fn check_chain(plant: &[u8], t: Trailer, offer: &[u8]) -> Ruling
+    requires { ⌜ (plantRuling (now plant) ≡ Ruling.Accepted) × (t ≡ trailerOf (now plant)) × (offerRuling (now plant) (now offer) ≡ Ruling.Accepted) ⌝ }
+    ensures { λ r. ⌜ r ≡ chainRuling (now (plant .entry)) (now (offer .entry)) ⌝ }
+{
+    let known = read_known(offer);
+    if overlap(known.pos, known.neg) {
+        return Ruling::Refused(Cause::Plain(10));
+    }
+    let goal = read_goal(offer);
+    if overlap(goal.pos, goal.neg) {
+        return Ruling::Refused(Cause::Plain(10));
+    }
+    let need = work_back(plant, t, offer, u32_at(offer, 20), 0, 24);
+    match need {
+        Need::Facts(l) => at_start(known, l),
+        Need::Clash(c) => Ruling::Refused(c),
+    }
+}
+
+// The fact check: the first of refusals 1 to 4 and 7 to 13.
+pub fn rule_facts(plant: &[u8], offer: &[u8]) -> Ruling
+    ensures { λ r. ⌜ r ≡ factCheck (now (plant .entry)) (now (offer .entry)) ⌝ }
+{
+    let first = check_plant(plant);
+    let Ruling::Accepted = first else {
+        return first;
+    };
+    let t = read_trailer(plant);
+    let second = read_offer(plant, t, offer);
+    let Ruling::Accepted = second else {
+        return second;
+    };
+    check_chain(plant, t, offer)
+}

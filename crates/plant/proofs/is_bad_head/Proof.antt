@@ -1,0 +1,66 @@
+use Rattle.rulings.proofs.Laws.{last-of-or}
+use borrow.Author.Tests.{lt-ltb, le-ltb, eq-eqb, ne-eqb}
+use Rattle.plant.specs.Plant.{badHead}
+use Prim.Native.Nat.{_-_}
+use mathlib.Core.Path.{ap}
+use mathlib.Core.Bool.{not}
+use borrow.Author.Needs.{needs}
+use Rattle.plant.proofs.is_bad_head.Statement.{statement}
+use Rattle.plant.proofs.is_bad_head.Tie as tie
+
+add-if1 : tie.Need-add-if1
+add-if1 c = search needs
+
+shared-slice-read-if1 : tie.Need-shared-slice-read-if1
+shared-slice-read-if1 c = search needs
+
+returns : tie.Need-returns
+unfolding badHead
+returns c = simp (lt-ltb _ _ (c .if1 .taken))
+
+add-if2 : tie.Need-add-if2
+add-if2 c = search needs
+
+shared-slice-read-if2 : tie.Need-shared-slice-read-if2
+shared-slice-read-if2 c = search needs
+
+returns-2 : tie.Need-returns-2
+unfolding badHead
+returns-2 c = simp (le-ltb _ _ (c .before .before .if1 .left), ne-eqb _ _ (c .if2 .taken))
+
+add-if3 : tie.Need-add-if3
+add-if3 c = search needs
+
+shared-slice-read-if3 : tie.Need-shared-slice-read-if3
+shared-slice-read-if3 c = search needs
+
+returns-3 : tie.Need-returns-3
+unfolding badHead
+returns-3 c = simp (le-ltb _ _ (c .before .before .before .before .if1 .left), eq-eqb _ _ (c .before .before .if2 .left), ne-eqb _ _ (c .if3 .taken))
+
+add-result : tie.Need-add-result
+add-result c = search needs
+
+shared-slice-read-result : tie.Need-shared-slice-read-result
+shared-slice-read-result c = search needs
+
+returns-4 : tie.Need-returns-4
+unfolding badHead
+returns-4 c = last-of-or _ _ _ _ (le-ltb _ _ (c .before .before .before .before .before .if1 .left)) (ap not (eq-eqb _ _ (c .before .before .before .if2 .left))) (ap not (eq-eqb _ _ (c .before .if3 .left)))
+
+pub is-bad-head-spec : {M : Type 1} → statement M
+is-bad-head-spec =
+    tie.close
+    (tie.spec
+    add-if1
+    shared-slice-read-if1
+    returns
+    add-if2
+    shared-slice-read-if2
+    returns-2
+    add-if3
+    shared-slice-read-if3
+    returns-3
+    add-result
+    shared-slice-read-result
+    returns-4)

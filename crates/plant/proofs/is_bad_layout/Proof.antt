@@ -1,0 +1,34 @@
+use borrow.Author.Tests.{lt-ltb, le-ltb}
+use Rattle.plant.specs.Plant.{badLayout}
+use Prim.Native.Nat.{_-_}
+use borrow.Author.Needs.{needs}
+use Rattle.plant.proofs.is_bad_layout.Statement.{statement}
+use Rattle.plant.proofs.is_bad_layout.Tie as tie
+
+returns : tie.Need-returns
+unfolding badLayout
+returns c = simp (lt-ltb _ _ (c .if1 .taken))
+
+returns-2 : tie.Need-returns-2
+unfolding badLayout
+returns-2 c = simp (le-ltb _ _ (c .before .before .if1 .left), lt-ltb _ _ (c .if2 .taken))
+
+cast-result : tie.Need-cast-result
+cast-result c = search needs
+
+mul-result : tie.Need-mul-result
+mul-result c = search needs
+
+add-result : tie.Need-add-result
+add-result c = search needs
+
+add-result-2 : tie.Need-add-result-2
+add-result-2 c = search needs
+
+returns-3 : tie.Need-returns-3
+unfolding badLayout
+returns-3 c = simp (le-ltb _ _ (c .before .before .before .before .if1 .left), le-ltb _ _ (c .before .before .if2 .left))
+
+pub is-bad-layout-spec : {M : Type 1} → statement M
+is-bad-layout-spec =
+    tie.close (tie.spec returns returns-2 cast-result mul-result add-result add-result-2 returns-3)

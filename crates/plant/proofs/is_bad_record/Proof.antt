@@ -1,0 +1,85 @@
+use borrow.Author.Tests.{eq-eqb, ne-eqb, lt-ltb, le-ltb}
+use Rattle.plant.specs.Plant.{badRecord}
+use Rattle.plant.proofs.Records.{passes-header}
+use Prim.Native.Nat.{_-_}
+use borrow.Author.Needs.{needs}
+use Rattle.plant.proofs.is_bad_record.Statement.{statement}
+use Rattle.plant.proofs.is_bad_record.Tie as tie
+
+mul-offset-at : tie.Need-mul-offset-at
+mul-offset-at c = search needs
+
+add-offset-at : tie.Need-add-offset-at
+add-offset-at c = search needs
+
+offset-at-requires : tie.Need-offset-at-requires
+offset-at-requires c κs = search needs
+
+returns : tie.Need-returns
+unfolding badRecord
+returns c = simp (← c .before .offset-at .ensures .0, ne-eqb _ _ (c .if1 .taken))
+
+add-if2 : tie.Need-add-if2
+add-if2 c = search needs
+
+returns-2 : tie.Need-returns-2
+returns-2 c = passes-header _ _ _ _ _ (c .before .before .before .offset-at .ensures .0) (c .before .before .if1 .left) (c .if2 .taken)
+
+add-end : tie.Need-add-end
+add-end c = search needs
+
+add-byte-at : tie.Need-add-byte-at
+add-byte-at c = search needs
+
+byte-at-requires : tie.Need-byte-at-requires
+byte-at-requires c κs = search needs
+
+mul-end : tie.Need-mul-end
+mul-end c = search needs
+
+add-end-2 : tie.Need-add-end-2
+add-end-2 c = search needs
+
+returns-3 : tie.Need-returns-3
+unfolding badRecord
+returns-3 c = simp (← c .before .before .before .before .before .before .offset-at .ensures .0, eq-eqb _ _ (c .before .before .before .before .before .if1 .left), ← c .before .before .byte-at .ensures .0, lt-ltb _ _ (c .if3 .taken))
+
+is-bad-head-requires : tie.Need-is-bad-head-requires
+is-bad-head-requires c κs = search needs
+
+returns-4 : tie.Need-returns-4
+unfolding badRecord
+returns-4 c = simp (← c .before .before .before .before .before .before .before .before .offset-at .ensures .0, eq-eqb _ _ (c .before .before .before .before .before .before .before .if1 .left), ← c .before .before .before .before .byte-at .ensures .0, le-ltb _ _ (c .before .before .if3 .left), ← c .before .is-bad-head .ensures, c .if4 .taken)
+
+add-if5 : tie.Need-add-if5
+add-if5 c = search needs
+
+returns-5 : tie.Need-returns-5
+unfolding badRecord
+returns-5 c = simp (← c .before .before .before .before .before .before .before .before .before .before .before .offset-at .ensures .0, eq-eqb _ _ (c .before .before .before .before .before .before .before .before .before .before .if1 .left), ← c .before .before .before .before .before .before .before .byte-at .ensures .0, le-ltb _ _ (c .before .before .before .before .before .if3 .left), ← c .before .before .before .before .is-bad-head .ensures, c .before .before .before .if4 .left, eq-eqb _ _ (c .before .if5 .taken))
+
+returns-6 : tie.Need-returns-6
+unfolding badRecord
+returns-6 c = simp (← c .before .before .before .before .before .before .before .before .before .before .offset-at .ensures .0, eq-eqb _ _ (c .before .before .before .before .before .before .before .before .before .if1 .left), ← c .before .before .before .before .before .before .byte-at .ensures .0, le-ltb _ _ (c .before .before .before .before .if3 .left), ← c .before .before .before .is-bad-head .ensures, c .before .before .if4 .left, ne-eqb _ _ (c .if5 .left))
+
+pub is-bad-record-spec : {M : Type 1} → statement M
+is-bad-record-spec =
+    tie.close
+    (tie.spec
+    mul-offset-at
+    add-offset-at
+    offset-at-requires
+    returns
+    add-if2
+    returns-2
+    add-end
+    add-byte-at
+    byte-at-requires
+    mul-end
+    add-end-2
+    returns-3
+    is-bad-head-requires
+    returns-4
+    add-if5
+    returns-5
+    returns-6)

@@ -1,0 +1,63 @@
+use mathlib.Core.Path.{sym, _∙_, ap}
+use borrow.Author.Needs.{needs}
+use Rattle.rulings.specs.declared.Ruling.the-variants.{Refused}
+use Rattle.rulings.specs.Answer.{isValued}
+use Rattle.rulings.proofs.is_valued.Statement.{statement}
+use Rattle.rulings.proofs.is_valued.Tie as tie
+
+enum-told : tie.Need-enum-told
+enum-told c = search needs
+
+enum-known-r : tie.Need-enum-known-r
+enum-known-r c = search needs
+
+enum-told-2 : tie.Need-enum-told-2
+enum-told-2 c = search needs
+
+enum-told-3 : tie.Need-enum-told-3
+enum-told-3 c = search needs
+
+enum-told-4 : tie.Need-enum-told-4
+enum-told-4 c = search needs
+
+enum-told-5 : tie.Need-enum-told-5
+enum-told-5 c = search needs
+
+enum-told-6 : tie.Need-enum-told-6
+enum-told-6 c = search needs
+
+returns : tie.Need-returns
+returns c = sym (ap isValued (c .enum-told .given .1))
+
+returns-2 : tie.Need-returns-2
+returns-2 c = sym (ap isValued (c .before .before .before .r .given .1 ∙ ap Refused (c .enum-told2 .given .1)))
+
+returns-3 : tie.Need-returns-3
+returns-3 c = sym (ap isValued (c .before .before .before .r .given .1 ∙ ap Refused (c .enum-told3 .given .1)))
+
+returns-4 : tie.Need-returns-4
+returns-4 c = sym (ap isValued (c .before .before .before .r .given .1 ∙ ap Refused (c .enum-told4 .given .1)))
+
+returns-5 : tie.Need-returns-5
+returns-5 c = sym (ap isValued (c .before .before .before .r .given .1 ∙ ap Refused (c .enum-told5 .given .1)))
+
+returns-6 : tie.Need-returns-6
+returns-6 c = sym (ap isValued (c .before .before .before .r .given .1 ∙ ap Refused (c .enum-told6 .given .1)))
+
+pub is-valued-spec : {M : Type 1} → statement M
+is-valued-spec =
+    tie.close
+    (tie.spec
+    enum-told
+    enum-known-r
+    enum-told-2
+    enum-told-3
+    enum-told-4
+    enum-told-5
+    enum-told-6
+    returns
+    returns-2
+    returns-3
+    returns-4
+    returns-5
+    returns-6)

@@ -1,0 +1,4 @@
+pub mod Below
+pub mod Pairs
+pub mod Place
+pub mod Value

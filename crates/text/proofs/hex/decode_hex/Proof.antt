@@ -1,0 +1,51 @@
+-- `text::hex::decode_hex` meets its contract. Each answer follows from the tests that led there; the last is that of `decode_pairs`. Assumes nothing.
+use borrow.Author.Tests.{eq-eqb, ne-eqb, lt-ltb, le-ltb}
+use Rattle.text.specs.Hex.{decoded}
+use Rattle.text.proofs.Below.{list-none}
+use mathlib.Core.Path.{sym}
+use native.Mathlib.Omega.{arith}
+use borrow.Author.Needs.{needs}
+use Rattle.text.proofs.hex.decode_hex.Statement.{statement}
+use Rattle.text.proofs.hex.decode_hex.Tie as tie
+
+is-dash-requires : tie.Need-is-dash-requires
+is-dash-requires c κs = search needs
+
+returns : tie.Need-returns
+unfolding decoded
+returns c = (simp (← c .before .is-dash .ensures, c .if1 .taken), (omega arith, sym (list-none _)))
+
+returns-2 : tie.Need-returns-2
+unfolding decoded
+returns-2 c = (simp (← c .before .before .is-dash .ensures, c .before .if1 .left, eq-eqb _ _ (c .if2 .taken)), tt)
+
+returns-3 : tie.Need-returns-3
+unfolding decoded
+returns-3 c = (simp (← c .before .before .before .is-dash .ensures, c .before .before .if1 .left, ne-eqb _ _ (c .before .if2 .left), eq-eqb _ _ (c .if3 .taken)), tt)
+
+returns-4 : tie.Need-returns-4
+unfolding decoded
+returns-4 c = (simp (← c .before .before .before .before .is-dash .ensures, c .before .before .before .if1 .left, ne-eqb _ _ (c .before .before .if2 .left), ne-eqb _ _ (c .before .if3 .left), lt-ltb _ _ (c .if4 .taken)), tt)
+
+decode-pairs-requires : tie.Need-decode-pairs-requires
+decode-pairs-requires c κs = search needs
+
+same-length : tie.Need-same-length
+same-length c = search needs
+
+returns-5 : tie.Need-returns-5
+unfolding decoded
+returns-5 c = (simp (← c .before .before .before .before .before .before .before .before .is-dash .ensures, c .before .before .before .before .before .before .before .if1 .left, ne-eqb _ _ (c .before .before .before .before .before .before .if2 .left), ne-eqb _ _ (c .before .before .before .before .before .if3 .left), le-ltb _ _ (c .before .before .before .before .if4 .left)) (c .before .before .decode-pairs .ensures .0), c .before .before .decode-pairs .ensures .1)
+
+pub decode-hex-spec : {M : Type 1} → statement M
+decode-hex-spec =
+    tie.close
+    (tie.spec
+    is-dash-requires
+    returns
+    returns-2
+    returns-3
+    returns-4
+    decode-pairs-requires
+    same-length
+    returns-5)

@@ -1,0 +1,4 @@
+pub mod Below
+pub mod Decimal
+pub mod Hex
+pub mod Written

@@ -1,0 +1,17 @@
+# What ./check, ./demo and ./bench share: plain words on what is being done, and a clear stop where something is missing.
+
+say() { printf '\n== %s\n' "$*"; }
+
+stop() {
+    printf '\nstopped: %s\n' "$*" >&2
+    exit 1
+}
+
+# need COMMAND WHAT-IT-IS WHAT-TO-DO
+need() {
+    command -v "$1" >/dev/null 2>&1 || stop "the command '$1' ($2) is not found: $3, and run this again."
+}
+
+need_rt() { need rt "the Rattle kit" "install the Rattle kit and put its 'rt' on your PATH"; }
+need_cc() { need cc "a C compiler" "install gcc or clang"; }
+need_cargo() { need cargo "Rust's build tool" "install Rust with cargo"; }

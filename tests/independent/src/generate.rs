@@ -1,0 +1,154 @@
+//! Call logs for the comparison: first lists that go through every limit, then random ones.
+
+pub mod draft;
+
+mod damage;
+mod offers;
+mod plants;
+mod random;
+mod rng;
+mod sweeps;
+mod world;
+
+use crate::log::Item;
+use rng::Rng;
+use std::io::{self, Write};
+
+/// The items of one list of calls.
+#[derive(Default)]
+struct List(Vec<Item>);
+
+type Scenario = fn(&mut Rng, &mut List);
+
+/// The lists that come first in every log.
+const SYSTEMATIC: [(&str, Scenario); 13] = [
+    ("lengths", plants::lengths),
+    ("counts", plants::counts),
+    ("wraps", plants::wraps),
+    ("durations", plants::durations),
+    ("allocations", plants::allocations),
+    ("masks", plants::masks),
+    ("headers", plants::headers),
+    ("layouts", plants::layouts),
+    ("orders", plants::orders),
+    ("formats", offers::formats),
+    ("clashes", offers::clashes),
+    ("chains", offers::chains),
+    ("sweeps", sweeps::sweeps),
+];
+
+/// Writes a log of so many calls.
+pub fn generate(seed: u64, calls: u64, out: &mut impl Write) -> io::Result<()> {
+    let mut rng = Rng::new(seed);
+    let mut calls_left = calls;
+    writeln!(out, "# generate {seed} {calls}")?;
+    let random: (&str, Scenario) = ("random", random::random);
+    let scenarios = SYSTEMATIC.into_iter().chain(std::iter::repeat(random));
+    for (number, (name, scenario)) in scenarios.enumerate() {
+        let mut list = List::default();
+        scenario(&mut rng, &mut list);
+        writeln!(out, "\n{}", Item::List(format!("{name}-{number}")))?;
+        for item in list.0 {
+            if matches!(item, Item::Check | Item::Part(_) | Item::Fact(_)) {
+                if calls_left == 0 {
+                    return Ok(());
+                }
+                calls_left -= 1;
+            }
+            writeln!(out, "{item}")?;
+        }
+    }
+    Ok(())
+}
+
+impl List {
+    fn plant(&mut self, file: Vec<u8>) {
+        self.0.push(Item::Plant(file));
+    }
+
+    fn check(&mut self) {
+        self.0.push(Item::Check);
+    }
+
+    fn part(&mut self, action: u32) {
+        self.0.push(Item::Part(action));
+    }
+
+    fn fact(&mut self, offer: &[u8]) {
+        self.0.push(Item::Fact(offer.to_vec()));
+    }
+
+    /// Puts a plant to every call that reads it.
+    fn try_plant(&mut self, file: Vec<u8>, offer: &[u8]) {
+        self.plant(file);
+        self.check();
+        self.part(0);
+        self.fact(offer);
+    }
+}
+
+#[cfg(test)]
+mod tests {
+    use super::*;
+    use crate::compare::compare;
+    use crate::facts::fact_check;
+    use crate::log::{parse, MOST_PLANT_BYTES};
+    use crate::replay::Session;
+    use crate::ruling::Ruling;
+    use world::World;
+
+    fn log(seed: u64, calls: u64) -> String {
+        let mut bytes = Vec::new();
+        generate(seed, calls, &mut bytes).unwrap();
+        String::from_utf8(bytes).unwrap()
+    }
+
+    #[test]
+    fn a_seed_always_gives_the_same_log() {
+        assert_eq!(log(5, 30_000), log(5, 30_000));
+        assert_ne!(log(5, 30_000), log(6, 30_000));
+    }
+
+    #[test]
+    fn a_log_is_well_formed_and_has_as_many_calls_as_asked() {
+        let mut calls = 0;
+        for line in log(1, 30_000).lines() {
+            match parse(line).unwrap() {
+                Some(Item::Plant(file)) => assert!(file.len() <= MOST_PLANT_BYTES),
+                Some(Item::Check | Item::Part(_) | Item::Fact(_)) => calls += 1,
+                Some(Item::List(_)) | None => {}
+            }
+        }
+        assert_eq!(calls, 30_000);
+    }
+
+    #[test]
+    fn a_log_shows_all_that_a_comparison_wants() {
+        let log = log(2, 40_000);
+        let mut session = Session::default();
+        let mut answers = String::new();
+        for line in log.lines() {
+            let item = parse(line).unwrap();
+            if let Some(answer) = item.as_ref().and_then(|item| session.answer(item)) {
+                answers += &format!("{answer}\n");
+            }
+        }
+        let comparison = compare(log.as_bytes(), answers.as_bytes()).unwrap();
+        assert_eq!(comparison.faults(), Vec::<String>::new());
+    }
+
+    #[test]
+    fn offers_built_to_pass_do_pass() {
+        let mut rng = Rng::new(3);
+        for facts in [1, 0x8000_0001, 0xF0, u32::MAX] {
+            for count in [1, 2, 5, 128] {
+                let world = World::grow(&mut rng, count, facts);
+                let file = draft::plant_file(&world.actions);
+                for _ in 0..50 {
+                    let offer = world.passing_offer(&mut rng).bytes();
+                    assert_eq!(fact_check(&file, &offer), Ruling::Accepted);
+                }
+            }
+        }
+    }
+}

@@ -1,0 +1,149 @@
+//! Call logs: the items of a log, read from and written as lines.
+
+use std::fmt;
+
+/// The most bytes a `plant` line may have.
+pub const MOST_PLANT_BYTES: usize = 16_384;
+
+/// A line of a call log that asks for something.
+#[derive(Clone, Debug, PartialEq, Eq)]
+pub enum Item {
+    /// Begins anew, with no plant.
+    List(String),
+    /// The plant file from now on.
+    Plant(Vec<u8>),
+    /// Read the plant file.
+    Check,
+    /// Hand out an action's allocations.
+    Part(u32),
+    /// The fact check of an offer.
+    Fact(Vec<u8>),
+}
+
+/// Reads a line; `None` for one to pass over, an error for one that ends the replay.
+pub fn parse(line: &str) -> Result<Option<Item>, &'static str> {
+    if line.is_empty() || line.starts_with('#') {
+        return Ok(None);
+    }
+    let words: Vec<&str> = line.split(' ').collect();
+    let item = match words[..] {
+        ["list", name] if !name.is_empty() => Item::List(name.to_string()),
+        ["plant", hex] => Item::Plant(parse_hex(hex)?),
+        ["check"] => Item::Check,
+        ["part", action] => Item::Part(parse_number(action)?),
+        ["fact", hex] => Item::Fact(parse_hex(hex)?),
+        _ => return Err("no such line"),
+    };
+    match &item {
+        Item::Plant(file) if file.len() > MOST_PLANT_BYTES => Err("too many bytes"),
+        _ => Ok(Some(item)),
+    }
+}
+
+fn parse_number(word: &str) -> Result<u32, &'static str> {
+    if !word.bytes().all(|byte| byte.is_ascii_digit()) {
+        return Err("not a decimal number");
+    }
+    word.parse().map_err(|_| "not a 32-bit number")
+}
+
+fn parse_hex(word: &str) -> Result<Vec<u8>, &'static str> {
+    if word == "-" {
+        return Ok(Vec::new());
+    }
+    let (pairs, odd) = word.as_bytes().as_chunks();
+    if pairs.is_empty() || !odd.is_empty() {
+        return Err("not whole bytes");
+    }
+    let byte = |&[high, low]: &[u8; 2]| Some(parse_digit(high)? << 4 | parse_digit(low)?);
+    let bytes: Option<Vec<u8>> = pairs.iter().map(byte).collect();
+    bytes.ok_or("not lower-case hex")
+}
+
+fn parse_digit(digit: u8) -> Option<u8> {
+    match digit {
+        b'0'..=b'9' => Some(digit - b'0'),
+        b'a'..=b'f' => Some(digit - b'a' + 10),
+        _ => None,
+    }
+}
+
+/// Bytes as a log shows them.
+pub fn hex(bytes: &[u8]) -> String {
+    if bytes.is_empty() {
+        return "-".to_string();
+    }
+    let digit = |value: u8| char::from(b"0123456789abcdef"[usize::from(value)]);
+    let digits = bytes
+        .iter()
+        .flat_map(|byte| [digit(byte >> 4), digit(byte & 15)]);
+    digits.collect()
+}
+
+impl fmt::Display for Item {
+    fn fmt(&self, f: &mut fmt::Formatter) -> fmt::Result {
+        match self {
+            Item::List(name) => write!(f, "list {name}"),
+            Item::Plant(file) => write!(f, "plant {}", hex(file)),
+            Item::Check => write!(f, "check"),
+            Item::Part(action) => write!(f, "part {action}"),
+            Item::Fact(offer) => write!(f, "fact {}", hex(offer)),
+        }
+    }
+}
+
+#[cfg(test)]
+mod tests {
+    use super::*;
+
+    #[test]
+    fn an_item_reads_back_as_written() {
+        let items = [
+            Item::List("a-1".to_string()),
+            Item::Plant(vec![]),
+            Item::Plant((0..=255).collect()),
+            Item::Check,
+            Item::Part(u32::MAX),
+            Item::Fact(vec![0x0f, 0xf0]),
+        ];
+        for item in items {
+            assert_eq!(parse(&item.to_string()), Ok(Some(item)));
+        }
+    }
+
+    #[test]
+    fn comments_and_empty_lines_are_passed_over() {
+        assert_eq!(parse(""), Ok(None));
+        assert_eq!(parse("# check"), Ok(None));
+    }
+
+    #[test]
+    fn other_lines_end_the_replay() {
+        let too_long = Item::Plant(vec![0; MOST_PLANT_BYTES + 1]).to_string();
+        let bad = [
+            "check ",
+            " check",
+            "Check",
+            "check 1",
+            "list",
+            "list ",
+            "list a b",
+            "part",
+            "part ",
+            "part +1",
+            "part -1",
+            "part 4294967296",
+            "plant",
+            "plant ",
+            "plant 0",
+            "plant 0A",
+            "plant 00 00",
+            "plant --",
+            "fact zz",
+            &too_long,
+        ];
+        for line in bad {
+            assert!(parse(line).is_err(), "{line}");
+        }
+    }
+}

@@ -1,0 +1,139 @@
+//! Offers, read in place against a plant: refusals 7 to 9.
+
+use crate::facts::Facts;
+use crate::plant::{Action, Plant, Word};
+use crate::ruling::Refusal;
+
+pub const MOST_STEPS: usize = 8;
+
+/// An offer in right format.
+pub struct Offer<'a> {
+    pub batch: u32,
+    pub known: Facts,
+    pub goal: Facts,
+    step_count: usize,
+    /// The action of each step; those from `step_count` on aren't used.
+    actions: [Action<'a>; MOST_STEPS],
+}
+
+impl<'a> Offer<'a> {
+    // Inlined, the offer needn't be copied from one place on the stack to another.
+    #[inline]
+    pub fn read(plant: &Plant<'a>, bytes: &'a [u8]) -> Result<Self, Refusal> {
+        let (words, odd_bytes) = bytes.as_chunks();
+        let Some((header, mut rest)) = words.split_first_chunk::<6>() else {
+            return Err(Refusal::OfferSize);
+        };
+        let [batch, known_true, known_false, goal_true, goal_false, step_count] =
+            header.map(u32::from_le_bytes);
+        let step_count = step_count as usize;
+        if step_count == 0 || step_count > MOST_STEPS {
+            return Err(Refusal::OfferSize);
+        }
+        let mut actions = [Action::default(); MOST_STEPS];
+        for (step, slot) in (0..).zip(&mut actions[..step_count]) {
+            let Some((action, _places, after)) = split_step(plant, rest) else {
+                return Err(Refusal::Step { step });
+            };
+            *slot = action;
+            rest = after;
+        }
+        if !rest.is_empty() || !odd_bytes.is_empty() {
+            return Err(Refusal::LeftOver);
+        }
+        Ok(Offer {
+            batch,
+            known: Facts::new(known_true, known_false),
+            goal: Facts::new(goal_true, goal_false),
+            step_count,
+            actions,
+        })
+    }
+
+    /// The actions from the first step to the last.
+    pub fn chain(&self) -> &[Action<'a>] {
+        &self.actions[..self.step_count]
+    }
+}
+
+/// Takes the first step, action and places, off the words; `None` if it runs past them or the
+/// plant has no such action.
+fn split_step<'a>(
+    plant: &Plant<'a>,
+    words: &'a [Word],
+) -> Option<(Action<'a>, &'a [Word], &'a [Word])> {
+    let (number, rest) = words.split_first()?;
+    let action = plant.action(u32::from_le_bytes(*number))?;
+    let (places, rest) = rest.split_at_checked(action.allocations().len())?;
+    Some((action, places, rest))
+}
+
+#[cfg(test)]
+mod tests {
+    use crate::facts::fact_check;
+    use crate::generate::draft::{plant_file, proving_offer, proving_plant, OfferDraft};
+
+    fn ruling_on(offer: &[u8]) -> (u32, Option<u32>) {
+        let ruling = fact_check(&plant_file(&proving_plant()), offer);
+        (ruling.number(), ruling.value())
+    }
+
+    #[test]
+    fn an_offer_cut_short_is_7_or_8() {
+        let offer = proving_offer().bytes();
+        assert_eq!(offer.len(), 36);
+        let cuts = [
+            (0, 7, None),
+            (23, 7, None),
+            (24, 8, Some(0)),
+            (27, 8, Some(0)),
+        ];
+        for (length, number, value) in cuts {
+            assert_eq!(ruling_on(&offer[..length]), (number, value), "{length}");
+        }
+        // Byte 28 begins the place of step 0, byte 32 step 1.
+        for (length, step) in [(28, 0), (31, 0), (32, 1), (35, 1)] {
+            assert_eq!(ruling_on(&offer[..length]), (8, Some(step)), "{length}");
+        }
+        assert_eq!(ruling_on(&offer), (0, None));
+    }
+
+    #[test]
+    fn the_step_count_is_from_1_to_8() {
+        for (claimed, ruling) in [
+            (0, (7, None)),
+            (1, (9, None)),
+            (3, (8, Some(2))),
+            (8, (8, Some(2))),
+            (9, (7, None)),
+            (u32::MAX, (7, None)),
+        ] {
+            let claimed_steps = Some(claimed);
+            let offer = OfferDraft {
+                claimed_steps,
+                ..proving_offer()
+            };
+            assert_eq!(ruling_on(&offer.bytes()), ruling, "{claimed}");
+        }
+    }
+
+    #[test]
+    fn a_step_names_an_action_of_the_plant() {
+        for action in [3, 4, 0x4000_0001, u32::MAX] {
+            let mut offer = proving_offer();
+            offer.steps[1].action = action;
+            assert_eq!(ruling_on(&offer.bytes()), (8, Some(1)), "{action}");
+        }
+    }
+
+    #[test]
+    fn bytes_left_over_are_9_and_come_before_facts() {
+        for left_over in 1..=4 {
+            let mut offer = proving_offer();
+            offer.known.negative = 1;
+            assert_eq!(ruling_on(&offer.bytes()), (10, None));
+            offer.left_over = vec![0; left_over];
+            assert_eq!(ruling_on(&offer.bytes()), (9, None), "{left_over}");
+        }
+    }
+}
