@@ -1,0 +1,43 @@
+-- The proving table's test, computed over the whole table. It stands on definitions alone, so that a definition which comes to something else
+-- is refused here. Assumes nothing.
+use mathlib.Core.Path.{_≡_, refl}
+use mathlib.Core.Bool.{true}
+use mathlib.Core.List.{List, [], _∷_}
+use lib.Count.{trailingZeros}
+use lib.Dec.{leb}
+use lib.ListN.{length}
+use Rattle.stn.specs.Table.{bias}
+use Rattle.demands.specs.Model as Model
+use Rattle.demands.specs.Tidy as Tidy
+use Rattle.demands.specs.Cases.{Case}
+use Rattle.demands.specs.Shown.{accepted, readable, sameRow, sameCells, sameBoards, shown, allShown}
+use Rattle.demands.specs.ProvingTable.{plant, jobJ, table}
+use Rattle.demands.proofs.Computing.{computing}
+
+-- the bytes are as many as document 01 says
+pub plant-length : length plant ≡ 120
+plant-length = refl
+
+pub offer-length : length (jobJ 0 0) ≡ 36
+offer-length = refl
+
+-- what is computed of a case: its horizon is in range, its calls are ruled so, and the board at the end shows what is expected
+abbrev pub Computes : Case → Type 0
+Computes c =
+    (leb (c .horizon) bias ≡ true)
+    × (Tidy.rules (Model.fresh (c .horizon) (c .lead)) (c .calls) ≡ c .rulings)
+    × (allShown (Tidy.runs (Model.fresh (c .horizon) (c .lead)) (c .calls)) (c .expects) ≡ true)
+
+abbrev pub AllCompute : List Case → Type 0
+AllCompute [] = Unit {0}
+AllCompute (c ∷ cs) = Computes c × AllCompute cs
+
+unfoldable pub shownOpen : Unit {0}
+unfolding accepted readable sameRow sameCells sameBoards shown allShown
+shownOpen = tt
+
+-- each of the fifteen rows computes
+pub computed : AllCompute table
+unfolding computing shownOpen trailingZeros
+computed =
+    ((refl, refl, refl), ((refl, refl, refl), ((refl, refl, refl), ((refl, refl, refl), ((refl, refl, refl), ((refl, refl, refl), ((refl, refl, refl), ((refl, refl, refl), ((refl, refl, refl), ((refl, refl, refl), ((refl, refl, refl), ((refl, refl, refl), ((refl, refl, refl), ((refl, refl, refl), ((refl, refl, refl), tt)))))))))))))))

@@ -1,0 +1,101 @@
+-- Tidy runs are runs: only the cells of live points count, and a tidied table has the same.
+--   holds-agree    what holds of a table holds of every table with the same cells of live points
+--   tidy-agree     a tidied table has the same cells
+--   runs-keep      every run of the rule book has the rulings of the tidy run, and is beside its board
+--   runs-exist     there is a run with these rulings;  fresh-exists: from the fresh book
+use mathlib.Core.Path.{_≡_, refl, ap, ap₂, sym, _∙_}
+use mathlib.Core.List.{List, [], _∷_}
+use Prim.Native.Nat.{ℕ, zero, suc, _+_, _≤_, _<_}
+use native.Mathlib.Omega.{arith}
+use lib.ListN.{getD}
+use Rattle.rulings.specs.declared.Ruling.{Ruling}
+use Rattle.lines.specs.Plain
+use Rattle.lines.specs.Rules.{RuleOn}
+use Rattle.stn.specs.Table.{bias, Table, Still, Agree}
+use Rattle.stn.proofs.Agree.{agree-closed, agree-fits}
+use Rattle.rulebook.specs.Book.{Book, Point, Call, Runs}
+use Rattle.rulebook.specs.Book as Rulebook
+use Rattle.demands.specs.Model.{Board, step}
+use Rattle.demands.specs.Model as Model
+use Rattle.demands.specs.Beside.{Holds, Sim}
+use Rattle.demands.specs.Tidy.{rowOf, rowsOf, tidy, tidied, runs, rules}
+use Rattle.demands.proofs.Jobs.{still-jobs}
+use Rattle.demands.proofs.Tries.{live-positive}
+use Rattle.demands.proofs.Step.{sim-keeps, sim-exists, fresh-sim}
+
+pub holds-agree : {s : Plain.State} {c : Table} {rs : List (RuleOn Point)} (d : Table) → Agree (Plain.liveCount s) c d → Holds s c rs → Holds s d rs
+unfolding Plain.liveCount
+holds-agree {s} {c} d e h =
+    record {
+      closed = agree-closed n c d e (live-positive s) (h .closed);
+      same = λ u. (
+        λ f. h .same u .0 (f .0, agree-fits n d c (λ i j hi hj. sym (e i j hi hj)) u (f .1)),
+        λ p. let f = h .same u .1 p in (f .0, agree-fits n c d e u (f .1)),
+      );
+      still = still-jobs c d n still (s .jobs) 1 (omega arith) (h .still);
+      lines = h .lines;
+      jobs = h .jobs;
+      small = h .small;
+    }
+  where
+    n : ℕ
+    n = Plain.liveCount s
+
+    still : (i : ℕ) → i < n → Still c i → Still d i
+    still i h was = omega (arith, e 0 i (live-positive s) h, e i 0 h (live-positive s))
+
+-- ---- the cells of a tidied table
+
+row-at : (f : ℕ → ℕ) (i n j : ℕ) → j < n → getD (rowOf f i n) j 0 ≡ f (i + j)
+unfolding rowOf
+row-at f i zero j h = absurd (omega arith)
+row-at f i (suc n) zero h = ap f (omega arith)
+row-at f i (suc n) (suc j) h = row-at f (suc i) n j (omega arith) ∙ ap f (omega arith)
+
+rows-at : (c : Table) (n i k a : ℕ) → a < k → getD (rowsOf c n i k) a [] ≡ rowOf (c (i + a)) 0 n
+unfolding rowsOf
+rows-at c n i zero a h = absurd (omega arith)
+rows-at c n i (suc k) zero h = ap (λ (z : ℕ). rowOf (c z) 0 n) (omega arith)
+rows-at c n i (suc k) (suc a) h = rows-at c n (suc i) k a (omega arith) ∙ ap (λ (z : ℕ). rowOf (c z) 0 n) (omega arith)
+
+pub tidy-agree : (n : ℕ) (c : Table) → Agree n c (tidy n c)
+unfolding tidy
+tidy-agree n c i j hi hj =
+    sym (ap (λ (l : List ℕ). getD l j 0) (rows-at c n 0 n i hi) ∙ row-at (c (0 + i)) 0 n j hj ∙ ap₂ c (omega arith) (omega arith))
+
+pub sim-tidied : {bd : Board} {bk : Book} → Sim bd bk → Sim (tidied bd) bk
+unfolding tidied
+sim-tidied {bd} m =
+    record {
+      state = m .state;
+      holds = holds-agree (tidy (Plain.liveCount (bd .state)) (bd .table)) (tidy-agree (Plain.liveCount (bd .state)) (bd .table)) (m .holds);
+    }
+
+-- ---- runs
+
+pub runs-keep :
+    {bd : Board} {bk : Book} → Sim bd bk → (cs : List Call) (rs : List Ruling) (k : Book) → Runs bk cs rs k
+    → (rs ≡ rules bd cs) × Sim (runs bd cs) k
+unfolding Runs rules runs
+runs-keep m [] rs k p = (p .0, rw (p .1) m)
+runs-keep m (c ∷ cs) rs k p =
+    let q = sim-keeps m c (p .0) (p .1) (p .3) in
+    let t = runs-keep (sim-tidied (q .1)) cs (p .2) k (p .5) in
+    (p .4 ∙ ap₂ _∷_ (q .0) (t .0), t .1)
+
+pub runs-exist : {bd : Board} {bk : Book} → Sim bd bk → (cs : List Call) → (k : Book) × Runs bk cs (rules bd cs) k
+unfolding Runs rules
+runs-exist {bd} {bk} m [] = (bk, (refl, refl))
+runs-exist {bd} {bk} m (c ∷ cs) =
+    let e = sim-exists m c in
+    let q = sim-keeps m c (step bd c .ruling) (e .0) (e .1) in
+    let t = runs-exist (sim-tidied (q .1)) cs in
+    (t .0, (step bd c .ruling, e .0, rules (tidied (step bd c .board)) cs, e .1, refl, t .1))
+
+pub fresh-exists : (H D : ℕ) → H ≤ bias → (cs : List Call) → (k : Book) × Runs (Rulebook.fresh H D) cs (rules (Model.fresh H D) cs) k
+fresh-exists H D le cs = runs-exist (fresh-sim H D le) cs
+
+pub fresh-keeps :
+    (H D : ℕ) → H ≤ bias → (cs : List Call) (rs : List Ruling) (k : Book) → Runs (Rulebook.fresh H D) cs rs k
+    → (rs ≡ rules (Model.fresh H D) cs) × Sim (runs (Model.fresh H D) cs) k
+fresh-keeps H D le cs rs k p = runs-keep (fresh-sim H D le) cs rs k p

@@ -1,0 +1,53 @@
+-- What a case of the proving table expects, as a test on the abstract board that computes. It is a device of the proof: the table's statement
+-- (Cases, ProvingTable) does not mention it, and proofs/Shown says that it means what the case says.
+--   readable p o    plant and offer are past refusals 1 to 4 and 7 to 9, and no fact is known both ways
+--   sameBoards a b  the same number of live points, and the same cells
+--   shown b x       the board b shows what x expects;  allShown: each of a list
+use mathlib.Core.Bool.{Bool, true, false, not, _&&_}
+use mathlib.Core.List.{List, [], _∷_}
+use Prim.Native.Nat.{ℕ, zero, suc}
+use lib.Dec.{eqb, ltb, leb}
+use Rattle.masks.specs.Mask.{share}
+use Rattle.rulings.specs.declared.Ruling.{Ruling}
+use Rattle.rulings.specs.declared.Ruling.the-variants.{Accepted, Refused}
+use Rattle.plant.specs.Plant.{plantRuling}
+use Rattle.offer.specs.Offer.{knownOf, offerRuling, factCheck}
+use Rattle.lines.specs.Plain
+use Rattle.stn.specs.Table as Gaps
+use Rattle.stn.specs.Table.{bias, Table}
+use Rattle.demands.specs.Model.{Board}
+use Rattle.demands.specs.Model as Model
+use Rattle.demands.specs.Tidy as Tidy
+use Rattle.demands.specs.Cases.{Expect, earliest, latest, runs, fails, same}
+
+unfoldable pub accepted : Ruling → Bool
+accepted Accepted = true
+accepted (Refused c) = false
+
+unfoldable pub readable : List ℕ → List ℕ → Bool
+readable p o = accepted (plantRuling p) && (accepted (offerRuling p o) && not (share (knownOf o .pos) (knownOf o .neg)))
+
+-- the first n cells of two rows; the first m rows of two tables, of n cells each
+unfoldable pub sameRow : (ℕ → ℕ) → (ℕ → ℕ) → ℕ → Bool
+sameRow f g zero = true
+sameRow f g (suc n) = sameRow f g n && eqb (f n) (g n)
+
+unfoldable pub sameCells : Table → Table → ℕ → ℕ → Bool
+sameCells c d n zero = true
+sameCells c d n (suc m) = sameCells c d n m && sameRow (c m) (d m) n
+
+unfoldable pub sameBoards : Board → Board → Bool
+sameBoards a b =
+    eqb (Plain.liveCount (a .state)) (Plain.liveCount (b .state))
+    && sameCells (a .table) (b .table) (Plain.liveCount (a .state)) (Plain.liveCount (a .state))
+
+unfoldable pub shown : Board → Expect → Bool
+shown b (earliest x v) = ltb x (Plain.liveCount (b .state)) && eqb (Gaps.earliest (b .table) x) v
+shown b (latest x v) = ltb x (Plain.liveCount (b .state)) && eqb (Gaps.latest (b .table) x) v
+shown b (runs p o) = readable p o && accepted (factCheck p o)
+shown b (fails p o) = readable p o && not (accepted (factCheck p o))
+shown b (same H D cs) = leb H bias && sameBoards b (Tidy.runs (Model.fresh H D) cs)
+
+unfoldable pub allShown : Board → List Expect → Bool
+allShown b [] = true
+allShown b (x ∷ xs) = shown b x && allShown b xs

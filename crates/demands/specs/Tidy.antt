@@ -1,0 +1,37 @@
+-- Runs with the table held in lists, so that a closed case computes: a table that is a function reads its predecessor three times for
+-- each rule, so ten rules are 59,049 reads of each cell; held in a list each cell is computed once.
+--   tidy n c     the table c of the first n points, its cells held in lists of rows
+--   tidied b     a board with its table so
+--   runs, rules  the board after a list of calls, and their rulings, tidied after each call
+use mathlib.Core.List.{List, [], _∷_}
+use Prim.Native.Nat.{ℕ, zero, suc}
+use lib.ListN.{getD}
+use Rattle.rulings.specs.declared.Ruling.{Ruling}
+use Rattle.lines.specs.Plain
+use Rattle.stn.specs.Table.{Table}
+use Rattle.rulebook.specs.Book.{Call}
+use Rattle.demands.specs.Model.{Board, board, step}
+
+-- f i, f (i + 1), .., n of them
+unfoldable pub rowOf : (ℕ → ℕ) → ℕ → ℕ → List ℕ
+rowOf f i zero = []
+rowOf f i (suc n) = f i ∷ rowOf f (suc i) n
+
+-- the rows i, i + 1, .., k of them, of n cells each
+unfoldable pub rowsOf : Table → ℕ → ℕ → ℕ → List (List ℕ)
+rowsOf c n i zero = []
+rowsOf c n i (suc k) = rowOf (c i) 0 n ∷ rowsOf c n (suc i) k
+
+unfoldable pub tidy : ℕ → Table → Table
+tidy n c = let rows = rowsOf c n 0 n in λ i j. getD (getD rows i []) j 0
+
+unfoldable pub tidied : Board → Board
+tidied b = board (b .state) (tidy (Plain.liveCount (b .state)) (b .table))
+
+unfoldable pub runs : Board → List Call → Board
+runs b [] = b
+runs b (c ∷ cs) = runs (tidied (step b c .board)) cs
+
+unfoldable pub rules : Board → List Call → List Ruling
+rules b [] = []
+rules b (c ∷ cs) = let a = step b c in a .ruling ∷ rules (tidied (a .board)) cs

@@ -1,0 +1,258 @@
+-- The plain machine (document 01, "Points, rules, timetables"): what plan, send, clock and retire do to jobs, lines and clock, and which
+-- rules they make. No table and no timetable: the rule book decides by the definition which of these rules can be kept.
+--   State            jobs (oldest first), one line per resource, clock, horizon H, lead D
+--   total, liveCount how many points live beside the origin, and with it. The origin is point 0, the first job's p0 is point 1, and so on
+--   notBefore x p    the rule: point x is at p or later;  notAfter x q: at q or earlier
+--   inOrder a b      the rule: use a ends no later than use b starts
+--   drafted s o      plan, before timetables are looked at: 14, 15, 16, or the state to be and the rules (b) to (e)
+--   bounds           the rules (a), which the rule book puts before them
+--   sentState, unsentPoints, freeze   send: the state to be, the points to be set, the rules that set them
+--   clockOk, clockState, starts       clock: 19, the state to be, its rules
+--   leaving s        retire: no job or an unsent one, or the rules that all is over by the clock, and the state to be
+use Prim.Native.Nat.{ℕ, zero, suc, _+_, _-_}
+use mathlib.Core.Bool.{Bool, true, false, cond, not, _&&_, _||_}
+use mathlib.Core.List.{List, [], _∷_, _++_, map}
+use lib.Dec.{leb, ltb, eqb}
+use lib.ListN.{length, getD, take, drop, set}
+use Rattle.rulings.specs.declared.Cause.{Cause}
+use Rattle.rulings.specs.Answer.{cause, plain}
+use Rattle.lines.specs.declared.Job.{Job}
+use Rattle.lines.specs.declared.Use.{Use}
+use Rattle.lines.specs.declared.Rule.{Rule}
+use Rattle.lines.specs.declared.Step.{Step}
+use Rattle.lines.specs.declared.Put.{Put}
+
+-- an offer as it was read: its batch, its steps, and its allocations "in offer order"
+pub record Offer : Type 0 where
+  pub batch : ℕ
+  pub steps : List Step
+  pub puts : List Put
+
+pub record State : Type 0 where
+  pub jobs : List Job
+  pub lines : List (List Use)
+  pub clock : ℕ
+  pub horizon : ℕ
+  pub lead : ℕ
+
+unfoldable pub total : List Job → ℕ
+total [] = 0
+total (j ∷ js) = j .points + total js
+
+unfoldable pub liveCount : State → ℕ
+liveCount s = suc (total (s .jobs))
+
+-- ---- what later requests change, each in one place
+
+-- how long after its point a use ends: "An allocation starts at its step's start plus its offset, and ends its length later."
+abbrev pub endOf : Use → ℕ
+endOf u = u .offset + u .length
+
+-- how much later than the last point of the job before it in its batch a job's last point is, at least: rule (e)
+abbrev pub batchDistance : State → ℕ
+batchDistance s = 0
+
+-- the batch of a job
+abbrev pub batchOf : Job → ℕ
+batchOf j = j .batch
+
+-- the latest time of a new point: rule (a)
+abbrev pub upperBound : State → ℕ
+upperBound s = s .horizon
+
+-- ---- rules
+
+unfoldable pub notBefore : ℕ → ℕ → Rule
+notBefore x p = record { early = 0; more = p; late = x; slack = 0 }
+
+unfoldable pub notAfter : ℕ → ℕ → Rule
+notAfter x q = record { early = x; more = 0; late = 0; slack = q }
+
+-- "Its end may equal the next one's start."
+unfoldable pub inOrder : Use → Use → Rule
+inOrder a b = record { early = a .point; more = endOf a; late = b .point; slack = b .offset }
+
+-- ---- plan
+
+-- (a) "each new point is from 0 to H": the n points from x on
+unfoldable pub bounds : ℕ → ℕ → ℕ → List Rule
+bounds H x zero = []
+bounds H x (suc n) = notBefore x 0 ∷ notAfter x H ∷ bounds H (suc x) n
+
+-- (c) "p(k+1) − pk lies between the step's shortest and longest duration": the first step runs from x
+unfoldable pub durations : ℕ → List Step → List Rule
+durations x [] = []
+durations x (s ∷ ss) =
+    record { early = x; more = s .shortest; late = suc x; slack = 0 }
+    ∷ record { early = suc x; more = 0; late = x; slack = s .longest }
+    ∷ durations (suc x) ss
+
+-- (d) "each allocation, in offer order, is put into its resource's line after the number of allocations given as its place"
+unfoldable pub inserted : ℕ → Use → List Use → List Use
+inserted p u line = take p line ++ (u ∷ drop p line)
+
+-- what a line has past its end; no rule is made with it
+abbrev pub noUse : Use
+noUse = record { point = 0; offset = 0; length = 0 }
+
+-- "and the one just before must end no later than it starts"
+unfoldable pub ruleBefore : List Use → ℕ → Use → List Rule
+ruleBefore line zero u = []
+ruleBefore line (suc p) u = inOrder (getD line p noUse) u ∷ []
+
+-- "and it no later than the one just after starts"
+unfoldable pub ruleAfter : List Use → ℕ → Use → List Rule
+ruleAfter line p u = cond (ltb p (length line)) (inOrder u (getD line p noUse) ∷ []) []
+
+-- the use of an allocation, where p0 of its job is point x
+unfoldable pub usedFrom : ℕ → Put → Use
+usedFrom x p = record { point = x + p .step; offset = p .offset; length = p .length }
+
+-- what placing comes to: refusal 15 or 16, or the new lines and the rules made
+pub data Placed : Type 0 where
+  stop : Cause → Placed
+  done : List (List Use) → List Rule → Placed
+
+-- 15 "A place exceeds the number in its line at that moment." 16 "The line has 32 already; 15 and 16 are tested allocation by allocation."
+-- The allocations left to place, of which the first is number i in the offer; the lines as they are at that moment; the rules so far
+unfoldable pub placed : ℕ → ℕ → List Put → List (List Use) → List Rule → Placed
+placed x i [] ls rs = done ls rs
+placed x i (p ∷ ps) ls rs =
+    let line : List Use = getD ls (p .resource) [] in
+    let u : Use = usedFrom x p in
+    cond (ltb (length line) (p .place)) (stop (cause 15 i))
+    (cond (leb 32 (length line)) (stop (cause 16 i))
+    (placed x (suc i) ps (set ls (p .resource) (inserted (p .place) u line)) (rs ++ (ruleBefore line (p .place) u ++ ruleAfter line (p .place) u))))
+
+-- the first list, or the second where the first is empty
+unfoldable pub orElse : List Rule → List Rule → List Rule
+orElse [] rs = rs
+orElse (r ∷ rs) others = r ∷ rs
+
+-- (e) "if the batch isn't 0 and a live job has it, pn is no earlier than the last point of the newest such job". The jobs are listed oldest
+-- first, so a later job's rule comes first. d is the distance, b the batch, last the number of pn, x the first point of the list's first job
+unfoldable pub afterNewest : ℕ → ℕ → ℕ → ℕ → List Job → List Rule
+afterNewest d b last x [] = []
+afterNewest d b last x (j ∷ js) =
+    orElse (afterNewest d b last (x + j .points) js)
+    (cond (eqb (batchOf j) b) (record { early = x + j .points - 1; more = d; late = last; slack = 0 } ∷ []) [])
+
+unfoldable pub batchRules : ℕ → ℕ → ℕ → List Job → List Rule
+batchRules d b last js = cond (eqb b 0) [] (afterNewest d b last 1 js)
+
+-- what an offer comes to before timetables are looked at: a refusal, or the state to be, the number of new points, and the rules (b) to (e)
+pub data Draft : Type 0 where
+  stop : Cause → Draft
+  go : State → ℕ → List Rule → Draft
+
+-- 14 "There are 16 jobs, or the points would pass 64."
+unfoldable pub full : State → ℕ → Bool
+full s n = leb 16 (length (s .jobs)) || ltb 64 (total (s .jobs) + n)
+
+abbrev pub pointsOf : Offer → ℕ
+pointsOf o = suc (length (o .steps))
+
+abbrev pub jobFrom : Offer → Job
+jobFrom o = record { points = pointsOf o; batch = o .batch; sent = false }
+
+unfoldable pub joining : State → Offer → Placed → Draft
+joining s o (stop c) = stop c
+joining s o (done ls rs) =
+    go
+    (record { jobs = s .jobs ++ (jobFrom o ∷ []); lines = ls; clock = s .clock; horizon = s .horizon; lead = s .lead })
+    (pointsOf o)
+    (notBefore (liveCount s) (s .clock + s .lead)
+    ∷ durations (liveCount s) (o .steps) ++ rs ++ batchRules (batchDistance s) (batchOf (jobFrom o)) (liveCount s + length (o .steps)) (s .jobs))
+
+unfoldable pub drafted : State → Offer → Draft
+drafted s o = cond (full s (pointsOf o)) (stop (plain 14)) (joining s o (placed (liveCount s) 0 (o .puts) (s .lines) []))
+
+-- ---- send: "every point of the unsent jobs up to there is set equal to its least value over all possible timetables"
+
+-- the job at this place is there and unsent; else 18
+unfoldable pub unsentAt : ℕ → List Job → Bool
+unsentAt k [] = false
+unsentAt zero (j ∷ js) = not (j .sent)
+unsentAt (suc k) (j ∷ js) = unsentAt k js
+
+-- the n points from x on
+unfoldable pub range : ℕ → ℕ → List ℕ
+range x zero = []
+range x (suc n) = x ∷ range (suc x) n
+
+-- the points of the unsent ones among the first n jobs; x is the first point of the list's first job
+unfoldable pub unsentPoints : ℕ → ℕ → List Job → List ℕ
+unsentPoints x zero js = []
+unsentPoints x (suc n) [] = []
+unsentPoints x (suc n) (j ∷ js) = cond (j .sent) [] (range x (j .points)) ++ unsentPoints (x + j .points) n js
+
+-- the first n jobs are sent
+unfoldable pub marked : ℕ → List Job → List Job
+marked zero js = js
+marked (suc n) [] = []
+marked (suc n) (j ∷ js) = record { points = j .points; batch = j .batch; sent = true } ∷ marked n js
+
+unfoldable pub sentState : State → ℕ → State
+sentState s k = record { jobs = marked (suc k) (s .jobs); lines = s .lines; clock = s .clock; horizon = s .horizon; lead = s .lead }
+
+-- each of these points is set equal to its value
+unfoldable pub freeze : (ℕ → ℕ) → List ℕ → List Rule
+freeze v [] = []
+freeze v (x ∷ xs) = notBefore x (v x) ∷ notAfter x (v x) ∷ freeze v xs
+
+-- ---- clock: "c becomes the clock, and p0 of each unsent job is at least c + D"
+
+-- not 19: "The clock would go back or pass H."
+unfoldable pub clockOk : State → ℕ → Bool
+clockOk s c = leb (s .clock) c && leb c (s .horizon)
+
+unfoldable pub clockState : State → ℕ → State
+clockState s c = record { jobs = s .jobs; lines = s .lines; clock = c; horizon = s .horizon; lead = s .lead }
+
+-- p0 of each unsent job is at p or later; x is the first point of the list's first job
+unfoldable pub starts : ℕ → ℕ → List Job → List Rule
+starts p x [] = []
+starts p x (j ∷ js) = cond (j .sent) [] (notBefore x p ∷ []) ++ starts p (x + j .points) js
+
+-- ---- retire: "the oldest job leaves the list and the lines; later points are renumbered down"
+
+-- the m points from f on leave: point x is one of them
+unfoldable pub goes : ℕ → ℕ → ℕ → Bool
+goes f m x = leb f x && ltb x (f + m)
+
+-- the new number of a point that stays
+unfoldable pub over : ℕ → ℕ → ℕ → ℕ
+over f m x = cond (ltb x f) x (x - m)
+
+-- a line without the uses of those points
+unfoldable pub staying : ℕ → ℕ → List Use → List Use
+staying f m [] = []
+staying f m (u ∷ us) =
+    cond (goes f m (u .point)) [] (record { point = over f m (u .point); offset = u .offset; length = u .length } ∷ []) ++ staying f m us
+
+-- the rules that the uses of those points end by c
+unfoldable pub endsBy : ℕ → ℕ → ℕ → List Use → List Rule
+endsBy c f m [] = []
+endsBy c f m (u ∷ us) =
+    cond (goes f m (u .point)) (record { early = u .point; more = endOf u; late = 0; slack = c } ∷ []) [] ++ endsBy c f m us
+
+unfoldable pub allEndBy : ℕ → ℕ → ℕ → List (List Use) → List Rule
+allEndBy c f m [] = []
+allEndBy c f m (l ∷ ls) = endsBy c f m l ++ allEndBy c f m ls
+
+-- "There is no job to retire, or the oldest is unsent": stop. Else the number of its points, the rules that its last point and its uses
+-- end by the clock, and the state to be
+pub data Leaving : Type 0 where
+  stop : Leaving
+  go : ℕ → List Rule → State → Leaving
+
+unfoldable pub leavingFrom : State → List Job → Leaving
+leavingFrom s [] = stop
+leavingFrom s (j ∷ js) =
+    cond (j .sent)
+    (go (j .points) (notAfter (j .points) (s .clock) ∷ allEndBy (s .clock) 1 (j .points) (s .lines))
+    (record { jobs = js; lines = map (staying 1 (j .points)) (s .lines); clock = s .clock; horizon = s .horizon; lead = s .lead }))
+    stop
+
+unfoldable pub leaving : State → Leaving
+leaving s = leavingFrom s (s .jobs)

@@ -1,0 +1,5 @@
+pub mod Fits
+pub mod Add
+pub mod Grow
+pub mod Pick
+pub mod Agree

@@ -1,0 +1,1 @@
+// Closed tables, the minimal network of document 01's gap table: definitions (specs/) and laws (proofs/). Nothing in it is run.
