@@ -11,7 +11,7 @@ use Rattle.demands.specs.Model as Model
 use Rattle.demands.specs.Tidy as Tidy
 use Rattle.demands.specs.Cases.{Case}
 use Rattle.demands.specs.Shown.{accepted, readable, sameRow, sameCells, sameBoards, shown, allShown}
-use Rattle.demands.specs.ProvingTable.{plant, jobJ, table}
+use Rattle.demands.specs.ProvingTable.{plant, jobJ, table, furtherTable}
 use Rattle.demands.proofs.Computing.{computing}
 
 -- the bytes are as many as document 01 says
@@ -36,8 +36,13 @@ unfoldable pub shownOpen : Unit {0}
 unfolding accepted readable sameRow sameCells sameBoards shown allShown
 shownOpen = tt
 
--- each of the fifteen rows computes
+-- each of document 01's fifteen rows computes, and each of our own
 pub computed : AllCompute table
 unfolding computing shownOpen trailingZeros
 computed =
     ((refl, refl, refl), ((refl, refl, refl), ((refl, refl, refl), ((refl, refl, refl), ((refl, refl, refl), ((refl, refl, refl), ((refl, refl, refl), ((refl, refl, refl), ((refl, refl, refl), ((refl, refl, refl), ((refl, refl, refl), ((refl, refl, refl), ((refl, refl, refl), ((refl, refl, refl), ((refl, refl, refl), tt)))))))))))))))
+
+pub further-computed : AllCompute furtherTable
+unfolding computing shownOpen trailingZeros
+further-computed =
+    ((refl, refl, refl), ((refl, refl, refl), ((refl, refl, refl), ((refl, refl, refl), ((refl, refl, refl), ((refl, refl, refl), ((refl, refl, refl), ((refl, refl, refl), ((refl, refl, refl), ((refl, refl, refl), tt))))))))))

@@ -10,10 +10,10 @@ use Rattle.rulebook.specs.Book.{Runs, fresh}
 use Rattle.demands.specs.Model as Model
 use Rattle.demands.specs.Tidy as Tidy
 use Rattle.demands.specs.Cases.{Case, Comes, AllCome}
-use Rattle.demands.specs.ProvingTable.{table}
+use Rattle.demands.specs.ProvingTable.{table, furtherTable}
 use Rattle.demands.proofs.Tidy.{fresh-exists, fresh-keeps}
 use Rattle.demands.proofs.Shown.{all-meet}
-use Rattle.demands.proofs.Computed.{Computes, AllCompute, computed}
+use Rattle.demands.proofs.Computed.{Computes, AllCompute, computed, further-computed}
 
 comes : (c : Case) → Computes c → Comes c
 comes c e =
@@ -33,3 +33,6 @@ all-come (c ∷ cs) e = (comes c (e .0), all-come cs (e .1))
 
 pub proving-table : AllCome table
 proving-table = all-come table computed
+
+pub further-table : AllCome furtherTable
+further-table = all-come furtherTable further-computed
