@@ -1,7 +1,6 @@
 -- Demand 3's heart: of two boards with the same number of live points, beside their books, all cells are equal exactly when the same
 -- timetables are possible.
 --   SameTables n c d      the same cells among the first n points
---   SameTimetables a b    the same timetables are possible
 --   compare               each exactly when the other;  sim-compare: of boards and books that are side by side
 use mathlib.Core.Path.{_≡_, sym}
 use mathlib.Core.Logic.{_↔_}
@@ -16,14 +15,12 @@ use Rattle.stn.proofs.Fits.{tight}
 use Rattle.stn.proofs.Agree.{agree-fits}
 use Rattle.rulebook.specs.Book.{Book, Point, Possible}
 use Rattle.demands.specs.Model.{Board, book}
+use Rattle.demands.specs.Cases.{SameTimetables}
 use Rattle.demands.specs.Beside.{Holds, Sim}
 use Rattle.demands.proofs.Tries.{turned}
 
 abbrev pub SameTables : ℕ → Table → Table → Type 0
 SameTables n c d = Agree n c d
-
-abbrev pub SameTimetables : Book → Book → Type 0
-SameTimetables a b = (u : Times) → Possible a u ↔ Possible b u
 
 -- Equal cells allow the same timetables. The other way: each cell is attained, so it is no larger than the other table's
 pub compare :
