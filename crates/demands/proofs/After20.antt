@@ -14,10 +14,10 @@ use lib.Dec.{T}
 use Rattle.rulings.specs.declared.Ruling.{Ruling}
 use Rattle.rulings.specs.declared.Ruling.the-variants.{Accepted}
 use Rattle.rulings.specs.Answer.{refuse, plain}
-use Rattle.lines.specs.declared.Job.{Job}
-use Rattle.lines.specs.declared.Rule.{Rule}
-use Rattle.lines.specs.Plain
-use Rattle.lines.specs.Rules.{RuleOn}
+use Rattle.plain.specs.declared.Job.{Job}
+use Rattle.plain.specs.declared.Rule.{Rule}
+use Rattle.plain.specs.Plain
+use Rattle.plain.specs.Rules.{RuleOn}
 use Rattle.stn.specs.Table.{Table, addAll, earliest}
 use Rattle.rulebook.specs.Book.{Book, Point, Step, send, clock}
 use Rattle.demands.specs.Model.{Board, Answer, board, refusal, settled, sendPoints, clocking, step}

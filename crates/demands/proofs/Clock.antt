@@ -3,9 +3,9 @@ use mathlib.Core.Bool.{Bool, true, false, cond}
 use mathlib.Core.List.{List, [], _∷_, _++_}
 use Prim.Native.Nat.{ℕ, _+_, _≤_, _<_}
 use native.Mathlib.Omega.{arith}
-use Rattle.lines.specs.declared.Job.{Job}
-use Rattle.lines.specs.Plain
-use Rattle.lines.specs.Rules.{RuleOn, AllKept}
+use Rattle.plain.specs.declared.Job.{Job}
+use Rattle.plain.specs.Plain
+use Rattle.plain.specs.Rules.{RuleOn, AllKept}
 use Rattle.stn.specs.Table.{Table, Within}
 use Rattle.rulebook.specs.Book.{Point, made, Settles}
 use Rattle.demands.specs.Model.{book, board, clocking}

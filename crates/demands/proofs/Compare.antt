@@ -8,8 +8,8 @@ use mathlib.Core.List.{List}
 use Prim.Native.Nat.{ℕ}
 use native.Mathlib.Omega.{arith}
 use lib.IntN.{pos}
-use Rattle.lines.specs.Plain
-use Rattle.lines.specs.Rules.{Times, RuleOn}
+use Rattle.plain.specs.Plain
+use Rattle.plain.specs.Rules.{Times, RuleOn}
 use Rattle.stn.specs.Table.{Table, Closed, Fits, Agree}
 use Rattle.stn.proofs.Fits.{tight}
 use Rattle.stn.proofs.Agree.{agree-fits}

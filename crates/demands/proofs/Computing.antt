@@ -13,7 +13,7 @@ use Rattle.masks.specs.Mask.{share, join, strike, lowest}
 use Rattle.facts.specs.Regression.{undoes, regressed, backOver, lacking, atStart, factRuling}
 use Rattle.plant.specs.Plant.{isMark, trailerOf, badLayout, recordStart, badHead, badRecord, badDuration, badAllocation, someBadAllocation, badAction, recordAt, recordRuling, plantRuling}
 use Rattle.offer.specs.Offer.{knownOf, goalOf, stepStart, stepAt, stepRuling, offerRuling, actionOf, chainFrom, chainRuling, factCheck}
-use Rattle.lines.specs.Plain.{total, liveCount, notBefore, notAfter, inOrder, durations, orElse, afterNewest, batchRules, full, joining, drafted, inserted, ruleBefore, ruleAfter, usedFrom, placed, unsentAt, range, unsentPoints, marked, sentState, freeze, clockOk, clockState, starts, goes, over, staying, endsBy, allEndBy, leavingFrom, leaving}
+use Rattle.plain.specs.Plain.{total, liveCount, notBefore, notAfter, inOrder, durations, orElse, afterNewest, batchRules, full, joining, drafted, inserted, ruleBefore, ruleAfter, usedFrom, placed, unsentAt, range, unsentPoints, marked, sentState, freeze, clockOk, clockState, starts, goes, over, staying, endsBy, allEndBy, leavingFrom, leaving}
 use Rattle.stn.specs.Table.{earliest, latest, add, addAll, implied, grow, growAll, pick, oldNumber}
 use Rattle.rulebook.specs.Reading.{recordOf, stepOf, putOf, stepsFrom, putsOfStep, putsFrom, offerOf, onRuling, readingOf}
 use Rattle.rulebook.specs.Book as Rulebook

@@ -11,12 +11,12 @@ use native.Mathlib.Omega.{arith}
 use lib.Dec.{T, eqb}
 use lib.ListN.{length}
 use Rattle.rulings.specs.Answer.{cause}
-use Rattle.lines.specs.declared.Job.{Job}
-use Rattle.lines.specs.declared.Put.{Put}
-use Rattle.lines.specs.declared.Rule.{Rule}
-use Rattle.lines.specs.declared.Step.{Step}
-use Rattle.lines.specs.declared.Use.{Use}
-use Rattle.lines.specs.Plain.{Offer, State, Placed, Draft, total, liveCount, notBefore, durations, full, pointsOf, jobFrom, placed, joining, drafted, batchDistance, batchOf, orElse, afterNewest, batchRules}
+use Rattle.plain.specs.declared.Job.{Job}
+use Rattle.plain.specs.declared.Put.{Put}
+use Rattle.plain.specs.declared.Rule.{Rule}
+use Rattle.plain.specs.declared.Step.{Step}
+use Rattle.plain.specs.declared.Use.{Use}
+use Rattle.plain.specs.Plain.{Offer, State, Placed, Draft, total, liveCount, notBefore, durations, full, pointsOf, jobFrom, placed, joining, drafted, batchDistance, batchOf, orElse, afterNewest, batchRules}
 use Rattle.plant.specs.Plant.{allocationCount}
 use Rattle.offer.specs.Offer.{stepCount}
 use Rattle.stn.specs.Table.{bias, Table, Still, Within}

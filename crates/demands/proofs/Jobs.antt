@@ -9,9 +9,9 @@ use Prim.Native.Nat.{ℕ, _+_, _≤_, _<_}
 use native.Mathlib.Omega.{arith}
 use lib.Dec.{T}
 use lib.IntN.{pos}
-use Rattle.lines.specs.declared.Job.{Job}
-use Rattle.lines.specs.Plain.{total}
-use Rattle.lines.specs.Rules.{Times}
+use Rattle.plain.specs.declared.Job.{Job}
+use Rattle.plain.specs.Plain.{total}
+use Rattle.plain.specs.Rules.{Times}
 use Rattle.stn.specs.Table.{Table, Closed, Fits, Still}
 use Rattle.stn.proofs.Fits.{tight}
 use Rattle.demands.specs.Beside.{Each, StillJobs, JobsIn}

@@ -14,11 +14,11 @@ use native.Mathlib.Omega.{arith}
 use lib.Dec.{ltb}
 use lib.IntN.{pos}
 use borrow.Author.Tests.{lt-ltb, le-ltb}
-use Rattle.lines.specs.declared.Job.{Job}
-use Rattle.lines.specs.declared.Use.{Use}
-use Rattle.lines.specs.Plain.{State, endOf, goes, over, staying, endsBy, allEndBy}
-use Rattle.lines.specs.Rules.{Times, RuleOn, renamed}
-use Rattle.lines.proofs.Rules.{kept-ext, kept-renamed}
+use Rattle.plain.specs.declared.Job.{Job}
+use Rattle.plain.specs.declared.Use.{Use}
+use Rattle.plain.specs.Plain.{State, endOf, goes, over, staying, endsBy, allEndBy}
+use Rattle.plain.specs.Rules.{Times, RuleOn, renamed}
+use Rattle.plain.proofs.Rules.{kept-ext, kept-renamed}
 use Rattle.stn.specs.Table.{Table, Within, pick, oldNumber}
 use Rattle.stn.proofs.Pick.{old-low, old-high, new-lt, new-positive, Number, leaves, stays, number, goes-old, over-old, spread, spread-stays}
 use Rattle.rulebook.specs.Book.{Point, live, gone, joined, Possible, left}

@@ -12,10 +12,10 @@ use native.Mathlib.Omega.{arith}
 use lib.Dec.{ltb, leb}
 use lib.ListN.{length, getD, set}
 use Rattle.rulings.specs.Answer.{cause}
-use Rattle.lines.specs.declared.Use.{Use}
-use Rattle.lines.specs.declared.Put.{Put}
-use Rattle.lines.specs.declared.Rule.{Rule}
-use Rattle.lines.specs.Plain.{noUse, inOrder, inserted, ruleBefore, ruleAfter, usedFrom, placed, Placed}
+use Rattle.plain.specs.declared.Use.{Use}
+use Rattle.plain.specs.declared.Put.{Put}
+use Rattle.plain.specs.declared.Rule.{Rule}
+use Rattle.plain.specs.Plain.{noUse, inOrder, inserted, ruleBefore, ruleAfter, usedFrom, placed, Placed}
 use Rattle.stn.specs.Table.{Within}
 use Rattle.demands.specs.Beside.{LineIn, LinesIn}
 

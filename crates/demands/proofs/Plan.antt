@@ -8,9 +8,9 @@ use native.Mathlib.Omega.{arith}
 use lib.IntN.{pos}
 use Rattle.rulings.specs.declared.Ruling.{Ruling}
 use Rattle.rulings.specs.declared.Ruling.the-variants.{Accepted, Refused}
-use Rattle.lines.specs.declared.Rule.{Rule}
-use Rattle.lines.specs.Plain
-use Rattle.lines.specs.Rules.{Times, RuleOn}
+use Rattle.plain.specs.declared.Rule.{Rule}
+use Rattle.plain.specs.Plain
+use Rattle.plain.specs.Rules.{Times, RuleOn}
 use Rattle.offer.specs.Offer.{factCheck}
 use Rattle.stn.specs.Table.{Table, Closed, Fits, addAll, growAll}
 use Rattle.stn.proofs.Grow.{growAll-closed, growAll-fits}

@@ -13,11 +13,11 @@ use lib.IntN.{pos}
 use Rattle.rulings.specs.declared.Ruling.{Ruling}
 use Rattle.rulings.specs.declared.Ruling.the-variants.{Accepted}
 use Rattle.rulings.specs.Answer.{plain}
-use Rattle.lines.specs.declared.Job.{Job}
-use Rattle.lines.specs.declared.Use.{Use}
-use Rattle.lines.specs.declared.Rule.{Rule}
-use Rattle.lines.specs.Plain
-use Rattle.lines.specs.Rules.{Times, RuleOn, renamed}
+use Rattle.plain.specs.declared.Job.{Job}
+use Rattle.plain.specs.declared.Use.{Use}
+use Rattle.plain.specs.declared.Rule.{Rule}
+use Rattle.plain.specs.Plain
+use Rattle.plain.specs.Rules.{Times, RuleOn, renamed}
 use Rattle.stn.specs.Table.{Table, Closed, Fits, Still, Within, implied, pick, oldNumber}
 use Rattle.stn.proofs.Fits.{implied-yes, implied-no}
 use Rattle.stn.proofs.Pick.{pick-closed, pick-fits, old-low, old-lt, spread, spread-origin, spread-fits}

@@ -14,12 +14,12 @@ use native.Mathlib.Omega.{arith}
 use native.Mathlib.Decide.{ℕ-discrete}
 use lib.Dec.{T}
 use lib.IntN.{pos}
-use Rattle.lines.specs.declared.Job.{Job}
-use Rattle.lines.specs.declared.Rule.{Rule}
-use Rattle.lines.specs.Plain
-use Rattle.lines.specs.Rules.{Times, RuleOn, AllKept}
-use Rattle.lines.proofs.Whole.{up}
-use Rattle.lines.proofs.Rules.{KeepsAll, keeps-of}
+use Rattle.plain.specs.declared.Job.{Job}
+use Rattle.plain.specs.declared.Rule.{Rule}
+use Rattle.plain.specs.Plain
+use Rattle.plain.specs.Rules.{Times, RuleOn, AllKept}
+use Rattle.plain.proofs.Whole.{up}
+use Rattle.plain.proofs.Rules.{KeepsAll, keeps-of}
 use Rattle.stn.specs.Table.{Table, Closed, Fits, Still, addAll, Within, earliest, soonest}
 use Rattle.stn.proofs.Fits.{implied-of, soonest-fits, soonest-origin}
 use Rattle.stn.proofs.Add.{Added, addAll-added}

@@ -9,9 +9,9 @@ use lib.Dec.{T}
 use Rattle.rulings.specs.declared.Ruling.{Ruling}
 use Rattle.rulings.specs.declared.Ruling.the-variants.{Accepted, Refused}
 use Rattle.rulings.specs.Answer.{cause, plain}
-use Rattle.lines.specs.declared.Job.{Job}
-use Rattle.lines.specs.declared.Rule.{Rule}
-use Rattle.lines.specs.Plain
+use Rattle.plain.specs.declared.Job.{Job}
+use Rattle.plain.specs.declared.Rule.{Rule}
+use Rattle.plain.specs.Plain
 use Rattle.offer.specs.Offer.{factCheck}
 use Rattle.stn.specs.Table.{Table, implied}
 use Rattle.rulebook.specs.Reading.{offerOf, onRuling, readingOf}

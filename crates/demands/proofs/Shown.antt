@@ -16,7 +16,7 @@ use Rattle.plant.specs.Plant.{plantRuling}
 use Rattle.offer.specs.Offer.{knownOf, goalOf, chainOf, offerRuling, factCheck}
 use Rattle.offer.proofs.Right.{fact-check-right}
 use Rattle.facts.specs.Forward.{AllRun}
-use Rattle.lines.specs.Plain
+use Rattle.plain.specs.Plain
 use Rattle.stn.specs.Table.{bias, Table, Agree}
 use Rattle.rulebook.specs.Book.{Book, Least, Greatest}
 use Rattle.demands.specs.Model.{Board, book}

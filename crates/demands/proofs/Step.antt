@@ -11,9 +11,9 @@ use native.Mathlib.Omega.{arith}
 use lib.IntN.{pos}
 use Rattle.rulings.specs.declared.Ruling.{Ruling}
 use Rattle.rulings.specs.Answer.{plain}
-use Rattle.lines.specs.Plain
-use Rattle.lines.specs.Rules.{Times, RuleOn, AllKept}
-use Rattle.lines.proofs.Rules.{NotLater}
+use Rattle.plain.specs.Plain
+use Rattle.plain.specs.Rules.{Times, RuleOn, AllKept}
+use Rattle.plain.proofs.Rules.{NotLater}
 use Rattle.stn.specs.Table.{bias, Table}
 use Rattle.stn.proofs.Fits.{fits-of}
 use Rattle.rulebook.specs.Book.{Book, Point, Call, plan, send, clock, retire, Possible, made, Guarded, Settles, Sends, Step, emptyLines}

@@ -9,8 +9,8 @@ use Prim.Native.Nat.{ℕ, zero, suc, _+_, _≤_, _<_}
 use native.Mathlib.Omega.{arith}
 use lib.ListN.{getD}
 use Rattle.rulings.specs.declared.Ruling.{Ruling}
-use Rattle.lines.specs.Plain
-use Rattle.lines.specs.Rules.{RuleOn}
+use Rattle.plain.specs.Plain
+use Rattle.plain.specs.Rules.{RuleOn}
 use Rattle.stn.specs.Table.{bias, Table, Still, Agree}
 use Rattle.stn.proofs.Agree.{agree-closed, agree-fits}
 use Rattle.rulebook.specs.Book.{Book, Point, Call, Runs}

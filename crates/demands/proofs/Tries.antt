@@ -19,10 +19,10 @@ use Rattle.rulings.specs.declared.Cause.{Cause}
 use Rattle.rulings.specs.declared.Ruling.{Ruling}
 use Rattle.rulings.specs.declared.Ruling.the-variants.{Accepted}
 use Rattle.rulings.specs.Answer.{plain}
-use Rattle.lines.specs.declared.Rule.{Rule}
-use Rattle.lines.specs.Plain
-use Rattle.lines.specs.Rules.{Times, RuleOn, named}
-use Rattle.lines.proofs.Rules.{KeepsAll, keeps-append, kept-append, kept-named}
+use Rattle.plain.specs.declared.Rule.{Rule}
+use Rattle.plain.specs.Plain
+use Rattle.plain.specs.Rules.{Times, RuleOn, named}
+use Rattle.plain.proofs.Rules.{KeepsAll, keeps-append, kept-append, kept-named}
 use Rattle.stn.specs.Table.{bias, Table, Closed, Fits, soonest, addAll, Within}
 use Rattle.stn.proofs.Fits.{soonest-fits, soonest-origin}
 use Rattle.stn.proofs.Add.{Added, addAll-added}

@@ -9,9 +9,9 @@ use Prim.Native.Nat.{ℕ, _+_, _≤_, _<_}
 use native.Mathlib.Omega.{arith}
 use lib.IntN.{ℤ, pos, subℕ, _+ℤ_}
 use lib.Signed.{_≤ℤ_}
-use Rattle.lines.specs.Plain
-use Rattle.lines.specs.Rules.{Times, RuleOn}
-use Rattle.lines.proofs.Whole.{up, dn, below-of, of-below, sub-spec, sum-spec, whole-eq}
+use Rattle.plain.specs.Plain
+use Rattle.plain.specs.Rules.{Times, RuleOn}
+use Rattle.plain.proofs.Whole.{up, dn, below-of, of-below, sub-spec, sum-spec, whole-eq}
 use Rattle.stn.specs.Table.{bias, Table, far, earliest, latest, soonest}
 use Rattle.stn.proofs.Fits.{fits-to, far-fits, far-origin, soonest-least, latest-far, latest-most}
 use Rattle.rulebook.specs.Book.{Book, Point, Possible, Least, Greatest, Gap}

@@ -13,10 +13,10 @@ use Prim.Native.Nat.{ℕ, _+_, _≤_, _<_}
 use lib.Dec.{T}
 use lib.IntN.{pos}
 use Rattle.rulings.specs.declared.Ruling.{Ruling}
-use Rattle.lines.specs.declared.Job.{Job}
-use Rattle.lines.specs.declared.Use.{Use}
-use Rattle.lines.specs.Plain
-use Rattle.lines.specs.Rules.{Times, RuleOn}
+use Rattle.plain.specs.declared.Job.{Job}
+use Rattle.plain.specs.declared.Use.{Use}
+use Rattle.plain.specs.Plain
+use Rattle.plain.specs.Rules.{Times, RuleOn}
 use Rattle.stn.specs.Table.{bias, Table, Closed, Fits, Still}
 use Rattle.rulebook.specs.Book.{Book, Point, Possible}
 use Rattle.demands.specs.Model.{Board, Answer, book}

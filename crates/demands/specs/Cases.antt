@@ -10,7 +10,7 @@ use Prim.Native.Nat.{ℕ}
 use Rattle.rulings.specs.declared.Ruling.{Ruling}
 use Rattle.facts.specs.Forward.{AllRun}
 use Rattle.offer.specs.Offer.{knownOf, goalOf, chainOf}
-use Rattle.lines.specs.Rules.{Times}
+use Rattle.plain.specs.Rules.{Times}
 use Rattle.rulebook.specs.Book.{Book, Call, Possible, Least, Greatest, Runs, fresh}
 
 pub data Expect : Type 0 where

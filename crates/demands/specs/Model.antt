@@ -16,8 +16,8 @@ use Rattle.rulings.specs.declared.Cause.{Cause}
 use Rattle.rulings.specs.declared.Ruling.{Ruling}
 use Rattle.rulings.specs.declared.Ruling.the-variants.{Accepted, Refused}
 use Rattle.rulings.specs.Answer.{cause, plain}
-use Rattle.lines.specs.Plain
-use Rattle.lines.specs.Rules.{RuleOn}
+use Rattle.plain.specs.Plain
+use Rattle.plain.specs.Rules.{RuleOn}
 use Rattle.stn.specs.Table.{bias, Table, addAll, growAll, earliest, implied, pick, oldNumber}
 use Rattle.rulebook.specs.Reading.{Reading, bad, good, readingOf}
 use Rattle.rulebook.specs.Book.{Book, Point, Call, plan, send, clock, retire}

@@ -6,7 +6,7 @@ use mathlib.Core.Bool.{not}
 use mathlib.Core.List.{List, [], _∷_}
 use Prim.Native.Nat.{ℕ, suc}
 use lib.Dec.{T}
-use Rattle.lines.specs.declared.Job.{Job}
+use Rattle.plain.specs.declared.Job.{Job}
 
 unfoldable pub AllSent : List Job → Type 0
 AllSent [] = Unit {0}

@@ -12,7 +12,7 @@ use Rattle.rulings.specs.declared.Ruling.{Ruling}
 use Rattle.rulings.specs.declared.Ruling.the-variants.{Accepted, Refused}
 use Rattle.plant.specs.Plant.{plantRuling}
 use Rattle.offer.specs.Offer.{knownOf, offerRuling, factCheck}
-use Rattle.lines.specs.Plain
+use Rattle.plain.specs.Plain
 use Rattle.stn.specs.Table as Gaps
 use Rattle.stn.specs.Table.{bias, Table}
 use Rattle.demands.specs.Model.{Board}

@@ -7,7 +7,7 @@ use mathlib.Core.List.{List, [], _∷_}
 use Prim.Native.Nat.{ℕ, zero, suc}
 use lib.ListN.{getD}
 use Rattle.rulings.specs.declared.Ruling.{Ruling}
-use Rattle.lines.specs.Plain
+use Rattle.plain.specs.Plain
 use Rattle.stn.specs.Table.{Table}
 use Rattle.rulebook.specs.Book.{Call}
 use Rattle.demands.specs.Model.{Board, board, step}

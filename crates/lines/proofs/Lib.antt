@@ -1,2 +1,7 @@
-pub mod Whole
-pub mod Rules
+pub mod Padded
+pub mod Lists
+pub mod JobLaws
+pub mod LineLaws
+pub mod RuleLaws
+pub mod PlaceLaws
+pub mod DraftLaws

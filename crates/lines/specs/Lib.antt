@@ -1,2 +1,3 @@
-pub mod Plain
-pub mod Rules
+pub mod Padded
+pub mod Held
+pub mod Asked

@@ -1,41 +1,57 @@
-// Jobs, lines and rules: what board and rule book are made of.
+// Jobs, lines and collected rules by value: the plain machine's code.
+mod drafting; // what an offer comes to before timetables are looked at
+mod joblist; // the list of jobs
+mod lining; // the lines of resources
+mod placing; // the allocations of an offer put into the lines
+mod rulelist; // the list of rules
 
-// A job: how many points it has (one more than steps), its batch (0 is none), and whether it was sent.
-pub struct Job {
-    pub points: u32,
-    pub batch: u32,
-    pub sent: bool,
+pub use drafting::Drafted;
+pub use drafting::draft;
+pub use joblist::add_job;
+pub use joblist::is_full;
+pub use joblist::is_unsent;
+pub use joblist::mark_sent;
+pub use joblist::points;
+pub use joblist::tidy_jobs;
+pub use lining::insert;
+pub use lining::tidy_line;
+pub use lining::tidy_lines;
+pub use placing::Placing;
+pub use placing::place_all;
+use plain::Job;
+use plain::Put;
+use plain::Step;
+use plain::Use;
+pub use rulelist::Rules;
+pub use rulelist::add_after;
+pub use rulelist::add_batch;
+pub use rulelist::add_before;
+pub use rulelist::add_durations;
+pub use rulelist::no_rules;
+pub use rulelist::not_before;
+pub use rulelist::push;
+pub use rulelist::start_rules;
+
+// The jobs of a board, oldest first.
+pub struct Jobs {
+    pub count: usize,
+    pub jobs: [Job; 16],
 }
 
-// A use of a resource (document 01: an allocation in a line). It starts `offset` after its point, the start of its step, and
-// ends `length` later.
-pub struct Use {
-    pub point: u32,
-    pub offset: u32,
-    pub length: u32,
+// The line of a resource: its uses in their order.
+pub struct Line {
+    pub count: usize,
+    pub uses: [Use; 32],
 }
 
-// A rule: the time of `early` plus `more` is at most the time of `late` plus `slack`. So the time of early minus the time of late is at
-// most slack - more, with no negative number in it. Early is the side that is bounded from above; it need not come first.
-pub struct Rule {
-    pub early: u32,
-    pub more: u32,
-    pub late: u32,
-    pub slack: u32,
+// The allocations of an offer, in its order.
+pub struct Puts {
+    pub count: usize,
+    pub puts: [Put; 32],
 }
 
-// A step of an offer: its shortest and its longest duration.
-pub struct Step {
-    pub shortest: u32,
-    pub longest: u32,
-}
-
-// An allocation of an offer: its resource, how many uses of the line stand before it (document 01: its place), the number of its step
-// in the offer, its offset and its length.
-pub struct Put {
-    pub resource: u32,
-    pub place: u32,
-    pub step: u32,
-    pub offset: u32,
-    pub length: u32,
+// The steps of an offer.
+pub struct Steps {
+    pub count: usize,
+    pub steps: [Step; 8],
 }

@@ -9,9 +9,9 @@ use mathlib.Core.List.{List, [], _∷_, _++_, map, map-id, map-map, map-append, 
 use Prim.Native.Nat.{ℕ}
 use Rattle.rulings.specs.declared.Ruling.{Ruling}
 use Rattle.rulings.specs.declared.Cause.{Cause}
-use Rattle.lines.specs.declared.Rule.{Rule}
-use Rattle.lines.specs.Plain
-use Rattle.lines.specs.Rules.{RuleOn, named, renamed}
+use Rattle.plain.specs.declared.Rule.{Rule}
+use Rattle.plain.specs.Plain
+use Rattle.plain.specs.Rules.{RuleOn, named, renamed}
 use Rattle.rulebook.specs.Reading.{Reading, bad, good, readingOf}
 use Rattle.rulebook.specs.Book.{Book, Point, live, Call, plan, send, clock, retire, made, left, Refuses, Settles, Guarded, Plans, Reads, Sends, Retires, Step, Runs}
 

@@ -21,10 +21,10 @@ use Rattle.rulings.specs.declared.Cause.{Cause}
 use Rattle.rulings.specs.declared.Ruling.{Ruling}
 use Rattle.rulings.specs.declared.Ruling.the-variants.{Accepted, Refused}
 use Rattle.rulings.specs.Answer.{plain}
-use Rattle.lines.specs.declared.Use.{Use}
-use Rattle.lines.specs.declared.Rule.{Rule}
-use Rattle.lines.specs.Plain
-use Rattle.lines.specs.Rules.{Times, RuleOn, named, renamed, AllKept}
+use Rattle.plain.specs.declared.Use.{Use}
+use Rattle.plain.specs.declared.Rule.{Rule}
+use Rattle.plain.specs.Plain
+use Rattle.plain.specs.Rules.{Times, RuleOn, named, renamed, AllKept}
 use Rattle.rulebook.specs.Reading.{Reading, bad, good, readingOf}
 
 -- plan takes a plant file's bytes and an offer's

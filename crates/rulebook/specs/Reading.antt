@@ -10,9 +10,9 @@ use Rattle.rulings.specs.declared.Ruling.{Ruling}
 use Rattle.rulings.specs.declared.Ruling.the-variants.{Accepted, Refused}
 use Rattle.plant.specs.Plant.{recordStart, shortest, longest, allocationCount, allocationStart, resource, offset, useLength}
 use Rattle.offer.specs.Offer.{batchOf, stepCount, stepStart, placeAt, factCheck}
-use Rattle.lines.specs.declared.Step.{Step}
-use Rattle.lines.specs.declared.Put.{Put}
-use Rattle.lines.specs.Plain.{Offer}
+use Rattle.plain.specs.declared.Step.{Step}
+use Rattle.plain.specs.declared.Put.{Put}
+use Rattle.plain.specs.Plain.{Offer}
 
 -- the record of the action that step k names
 unfoldable pub recordOf : List ℕ → List ℕ → ℕ → ℕ

@@ -14,9 +14,9 @@ use Prim.Native.Nat.{ℕ, _+_, _≤_, _<_}
 use native.Mathlib.Omega.{arith}
 use lib.Dec.{leb}
 use borrow.Author.Tests.{leb-true, leb-false}
-use Rattle.lines.specs.declared.Rule.{Rule}
-use Rattle.lines.specs.Rules.{Times, AllKept}
-use Rattle.lines.proofs.Rules.{Keeps, KeepsAll, keeps-to, keeps-of}
+use Rattle.plain.specs.declared.Rule.{Rule}
+use Rattle.plain.specs.Rules.{Times, AllKept}
+use Rattle.plain.proofs.Rules.{Keeps, KeepsAll, keeps-to, keeps-of}
 use Rattle.stn.specs.Table.{bias, Table, Closed, Fits, Agrees, add, addAll, Within}
 use Rattle.stn.proofs.Fits.{fits-to, fits-of}
 

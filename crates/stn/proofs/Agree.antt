@@ -8,8 +8,8 @@ use mathlib.Core.Option.{none}
 use Prim.Native.Nat.{ℕ, _+_, _<_}
 use native.Mathlib.Omega.{arith}
 use lib.Dec.{leb}
-use Rattle.lines.specs.declared.Rule.{Rule}
-use Rattle.lines.specs.Rules.{Times}
+use Rattle.plain.specs.declared.Rule.{Rule}
+use Rattle.plain.specs.Rules.{Times}
 use Rattle.stn.specs.Table.{bias, Table, Closed, Fits, add, addAll, Within, Agree, AgreeBoth}
 use Rattle.stn.proofs.Fits.{fits-to, fits-of}
 

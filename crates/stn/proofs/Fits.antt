@@ -14,10 +14,10 @@ use native.Mathlib.Omega.{arith}
 use lib.Dec.{T, leb}
 use lib.IntN.{pos, subℕ}
 use borrow.Author.Tests.{leb-true, leb-false}
-use Rattle.lines.specs.declared.Rule.{Rule}
-use Rattle.lines.specs.Rules.{Times, AllKept}
-use Rattle.lines.proofs.Whole.{up, dn, sub-spec, whole-eq}
-use Rattle.lines.proofs.Rules.{NotLater, kept-to, kept-of, Keeps, KeepsAll, keeps-to, keeps-of}
+use Rattle.plain.specs.declared.Rule.{Rule}
+use Rattle.plain.specs.Rules.{Times, AllKept}
+use Rattle.plain.proofs.Whole.{up, dn, sub-spec, whole-eq}
+use Rattle.plain.proofs.Rules.{NotLater, kept-to, kept-of, Keeps, KeepsAll, keeps-to, keeps-of}
 use Rattle.stn.specs.Table.{bias, Table, Closed, Fits, far, earliest, latest, soonest, Within, implied}
 
 pub fits-to : {n : ℕ} {c : Table} {t : Times} → Fits n c t → (i j : ℕ) → i < n → j < n → NotLater t j bias i (c i j)

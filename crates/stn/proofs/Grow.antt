@@ -10,9 +10,9 @@ use Prim.Native.Nat.{ℕ, zero, suc, _+_, _≤_, _<_}
 use native.Mathlib.Omega.{arith}
 use native.Mathlib.Decide.{decLt}
 use borrow.Author.Tests.{eq-eqb, ne-eqb}
-use Rattle.lines.specs.Rules.{Times, AllKept}
-use Rattle.lines.specs.Plain.{notBefore, notAfter, bounds}
-use Rattle.lines.proofs.Rules.{NotLater, Keeps, KeepsAll, keeps-to, keeps-of}
+use Rattle.plain.specs.Rules.{Times, AllKept}
+use Rattle.plain.specs.Plain.{notBefore, notAfter, bounds}
+use Rattle.plain.proofs.Rules.{NotLater, Keeps, KeepsAll, keeps-to, keeps-of}
 use Rattle.stn.specs.Table.{bias, Table, Closed, Fits, grow, growAll}
 use Rattle.stn.proofs.Fits.{fits-to, fits-of}
 

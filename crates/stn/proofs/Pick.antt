@@ -14,10 +14,10 @@ use native.Mathlib.Omega.{arith}
 use native.Mathlib.Decide.{decLt}
 use lib.IntN.{pos, subℕ}
 use borrow.Author.Tests.{lt-ltb, le-ltb, le-leb, lt-leb}
-use Rattle.lines.specs.Rules.{Times}
-use Rattle.lines.specs.Plain.{goes, over}
-use Rattle.lines.proofs.Whole.{up, dn, sub-spec}
-use Rattle.lines.proofs.Rules.{NotLater}
+use Rattle.plain.specs.Rules.{Times}
+use Rattle.plain.specs.Plain.{goes, over}
+use Rattle.plain.proofs.Whole.{up, dn, sub-spec}
+use Rattle.plain.proofs.Rules.{NotLater}
 use Rattle.stn.specs.Table.{bias, Table, Closed, Fits, pick, Still, oldNumber}
 use Rattle.stn.proofs.Fits.{fits-to, fits-of}
 

@@ -20,8 +20,8 @@ use mathlib.Core.Option.{Option, some, none}
 use Prim.Native.Nat.{ℕ, zero, suc, _+_, _-_, _≤_, _<_, min}
 use lib.Dec.{leb, ltb, eqb}
 use lib.IntN.{pos, subℕ}
-use Rattle.lines.specs.declared.Rule.{Rule}
-use Rattle.lines.specs.Rules.{Times, Kept}
+use Rattle.plain.specs.declared.Rule.{Rule}
+use Rattle.plain.specs.Rules.{Times, Kept}
 
 abbrev pub bias : ℕ
 bias = 100000000

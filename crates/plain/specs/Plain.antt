@@ -16,11 +16,11 @@ use lib.Dec.{leb, ltb, eqb}
 use lib.ListN.{length, getD, take, drop, set}
 use Rattle.rulings.specs.declared.Cause.{Cause}
 use Rattle.rulings.specs.Answer.{cause, plain}
-use Rattle.lines.specs.declared.Job.{Job}
-use Rattle.lines.specs.declared.Use.{Use}
-use Rattle.lines.specs.declared.Rule.{Rule}
-use Rattle.lines.specs.declared.Step.{Step}
-use Rattle.lines.specs.declared.Put.{Put}
+use Rattle.plain.specs.declared.Job.{Job}
+use Rattle.plain.specs.declared.Use.{Use}
+use Rattle.plain.specs.declared.Rule.{Rule}
+use Rattle.plain.specs.declared.Step.{Step}
+use Rattle.plain.specs.declared.Put.{Put}
 
 -- an offer as it was read: its batch, its steps, and its allocations "in offer order"
 pub record Offer : Type 0 where

@@ -7,7 +7,7 @@ use mathlib.Core.List.{List, [], _∷_}
 use Prim.Native.Nat.{ℕ}
 use lib.IntN.{ℤ, pos, _+ℤ_}
 use lib.Signed.{_≤ℤ_}
-use Rattle.lines.specs.declared.Rule.{Rule}
+use Rattle.plain.specs.declared.Rule.{Rule}
 
 abbrev pub Times : Type 0
 Times = ℕ → ℤ

@@ -12,9 +12,9 @@ use mathlib.Core.List.{List, [], _∷_, _++_, map}
 use Prim.Native.Nat.{ℕ, _+_, _≤_}
 use native.Mathlib.Omega.{arith}
 use lib.IntN.{ℤ, pos, _+ℤ_}
-use Rattle.lines.specs.declared.Rule.{Rule}
-use Rattle.lines.specs.Rules.{Times, RuleOn, named, renamed, Kept, AllKept}
-use Rattle.lines.proofs.Whole.{up, dn, below-of, of-below, add-spec}
+use Rattle.plain.specs.declared.Rule.{Rule}
+use Rattle.plain.specs.Rules.{Times, RuleOn, named, renamed, Kept, AllKept}
+use Rattle.plain.proofs.Whole.{up, dn, below-of, of-below, add-spec}
 
 module _ {P : Type 0} where
   abbrev pub NotLater : (P → ℤ) → P → ℕ → P → ℕ → Type 0

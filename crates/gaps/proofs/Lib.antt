@@ -1,0 +1,4 @@
+pub mod Overlaid
+pub mod Added
+pub mod Grown
+pub mod GapTable

@@ -1,0 +1,68 @@
+-- The gap table as the list of its 65 x 65 cells, row by row: what the code holds, read as a table of stn, and what the code makes of it.
+-- All that changes a list writes a table over the cells of its first points, so that the laws of `overlaid` serve adding and growing.
+--   cell l i j              the cell (i, j) of the list l;  tableOf l: the table that it holds
+--   rowOf l i               a copy of row i
+--   overlaid n c l          the list l with the table c written over the cells of the first n points;  overlay n c l k: what place k holds then
+--   relaxed l row via cut k   what place k holds when its row is relaxed: the least of what it held and the way that begins with via, goes on
+--                           by row and is shorter by cut
+--   added l n r             the rule r added to a table of n points;  addedCell l n r k: what place k holds then
+--   Usable n r              the rule r names the first n points, and its numbers keep every sum within 32 bits
+--   Bounded n c             no cell of the first n points is above twice the bias
+--   Whole n r c             no way from a point across the rule r to a point is cut off at 0
+--   grown l n m H           m new points, each from 0 to H, in a table of n points;  hungCell l n H k: what place k holds with the first of them
+use mathlib.Core.Bool.{cond}
+use mathlib.Core.List.{List}
+use Prim.Native.Nat.{ℕ, _+_, _-_, _*_, _/_, _%_, _≤_, _<_, min}
+use lib.Dec.{ltb}
+use lib.ListN.{getD}
+use Rattle.plain.specs.declared.Rule.{Rule}
+use Rattle.lists.specs.Loops.{build, rewritten}
+use Rattle.stn.specs.Table.{bias, Table, add, grow, growAll}
+
+abbrev pub cell : List ℕ → ℕ → ℕ → ℕ
+cell l i j = getD l (i * 65 + j) 0
+
+abbrev pub tableOf : List ℕ → Table
+tableOf l = λ i j. cell l i j
+
+abbrev pub rowOf : List ℕ → ℕ → List ℕ
+rowOf l i = build (λ j. cell l i j) 65
+
+abbrev pub overlay : ℕ → Table → List ℕ → ℕ → ℕ
+overlay n c l k = cond (ltb (k % 65) n) (c (k / 65) (k % 65)) (getD l k 0)
+
+unfoldable pub overlaid : ℕ → Table → List ℕ → List ℕ
+overlaid n c l = rewritten (overlay n c l) l 0 (n * 65)
+
+-- ---- a rule
+
+abbrev pub relaxed : List ℕ → List ℕ → ℕ → ℕ → ℕ → ℕ
+relaxed l row via cut k = min (getD l k 0) (via + getD row (k % 65) 0 - cut)
+
+abbrev pub addedCell : List ℕ → ℕ → Rule → ℕ → ℕ
+addedCell l n r = overlay n (add r (tableOf l)) l
+
+unfoldable pub added : List ℕ → ℕ → Rule → List ℕ
+added l n r = overlaid n (add r (tableOf l)) l
+
+pub record Usable (n : ℕ) (r : Rule) : Type 0 where
+  pub early-live : r .early < n
+  pub late-live : r .late < n
+  -- at most the clock and the lead, or an offset and a length
+  pub few-more : r .more ≤ 102000000
+  -- at most the largest horizon
+  pub few-slack : r .slack ≤ bias
+
+abbrev pub Bounded : ℕ → Table → Type 0
+Bounded n c = (i j : ℕ) → i < n → j < n → c i j ≤ bias + bias
+
+abbrev pub Whole : ℕ → Rule → Table → Type 0
+Whole n r c = (a b : ℕ) → a < n → b < n → bias + r .more ≤ c a (r .late) + r .slack + c (r .early) b
+
+-- ---- points
+
+abbrev pub hungCell : List ℕ → ℕ → ℕ → ℕ → ℕ
+hungCell l n H = overlay (n + 1) (grow H n (tableOf l)) l
+
+unfoldable pub grown : List ℕ → ℕ → ℕ → ℕ → List ℕ
+grown l n m H = overlaid (n + m) (growAll H n m (tableOf l)) l

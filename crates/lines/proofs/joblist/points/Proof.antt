@@ -1,0 +1,64 @@
+-- `points` meets its contract. The loop goes down the list of jobs: the sum so far and the points of the jobs that are left make the total.
+use Prim.Native.Nat.{_≤_, _-_, _+_}
+use mathlib.Core.Path.{_≡_, ap}
+use lib.ListN.{drop, length}
+use native.Mathlib.Omega.{arith}
+use borrow.Author.Needs.{needs}
+use Rattle.plain.specs.Plain.{total}
+use Rattle.lines.specs.Held.{jobsOf, noJob}
+use Rattle.lines.proofs.Lists.{held-next, held-over, length-mapped}
+use Rattle.lines.proofs.joblist.points.Statement.{statement}
+use Rattle.lines.proofs.joblist.points.Tie as tie
+
+abbrev Inv-loop : tie.InvT-loop
+Inv-loop jobs sum₀ k₀ k-end sum k = (k ≤ k-end) × (sum + total (drop k (jobsOf jobs)) ≡ total (jobsOf jobs)) × (length (jobs .jobs) ≡ 16)
+
+abbrev μ-loop : tie.MeasureT-loop
+μ-loop jobs sum₀ k₀ k-end sum k = k-end - k
+
+loop-holds : tie.Need-loop-holds Inv-loop μ-loop
+loop-holds c = (omega arith, omega arith, search (needs, length-mapped))
+
+mul-job : tie.Need-mul-job Inv-loop μ-loop
+mul-job c = omega arith
+
+element-copy-out-job : tie.Need-element-copy-out-job Inv-loop μ-loop
+element-copy-out-job c = omega arith
+
+add-sum : tie.Need-add-sum Inv-loop μ-loop
+unfolding total
+add-sum c =
+    let entry = c .before .before .before .before in
+    let q = entry .args .t1 in
+    omega (arith, ap total (held-next (q .count) (q .jobs) (c .before .before .before .loop .k) noJob (omega arith) (omega arith)), entry .pre .points)
+
+add-k : tie.Need-add-k Inv-loop μ-loop
+add-k c = omega arith
+
+loop-less : tie.Need-loop-less Inv-loop μ-loop
+loop-less c = omega arith
+
+loop-again : tie.Need-loop-again Inv-loop μ-loop
+unfolding total
+loop-again c = let q = c .before .before .before .before .args .t1 in
+    (omega arith, omega (arith, ap total (held-next (q .count) (q .jobs) (c .before .before .before .loop .k) noJob (omega arith) (omega arith))), c .before .before .before .loop .inv .2)
+
+returns : tie.Need-returns Inv-loop μ-loop
+unfolding total
+returns c = let q = c .before .before .args .t1 in
+    omega (arith, c .before .loop .inv .1, ap total (held-over (q .count) (q .jobs) (c .before .loop .k) (omega arith)))
+
+pub points-spec : {M : Type 1} → statement M
+points-spec =
+    tie.close
+    (tie.spec
+    Inv-loop
+    μ-loop
+    loop-holds
+    mul-job
+    element-copy-out-job
+    add-sum
+    add-k
+    loop-less
+    loop-again
+    returns)

@@ -1,0 +1,83 @@
+-- `add_durations` meets its contract. The loop goes down the list of steps: the rules so far and those of the steps that are left are all
+-- that is wanted (`Growing`), and two places are used up by each step.
+use Prim.Native.Nat.{ℕ, _≤_, _-_, _+_}
+use mathlib.Core.List.{[], _∷_, _++_}
+use mathlib.Core.Path.{_≡_, refl, sym, _∙_, ap}
+use lib.ListN.{drop, length, getD}
+use native.Mathlib.Numerals.{add-one}
+use native.Mathlib.Omega.{arith}
+use borrow.Author.Needs.{needs}
+use Rattle.plain.specs.Plain.{durations}
+use Rattle.lines.specs.Held.{rulesOf, stepsOf, noStep}
+use Rattle.lines.proofs.Lists.{held-next, held-over, length-mapped}
+use Rattle.lines.proofs.RuleLaws.{Growing, grows, grown, Room-less, durations-next, durations-two}
+use Rattle.lines.proofs.rulelist.add_durations.Statement.{statement}
+use Rattle.lines.proofs.rulelist.add_durations.Tie as tie
+
+abbrev Inv-loop : tie.InvT-loop
+Inv-loop x steps rules₀ at₀ k₀ k-end rules at k = (k ≤ k-end)
+    × Growing (rulesOf rules₀ ++ durations x (stepsOf steps)) rules (durations at (drop k (stepsOf steps))) (16 - (k + k))
+    × (at ≡ x + k)
+    × (length (steps .steps) ≡ 8)
+
+abbrev μ-loop : tie.MeasureT-loop
+μ-loop x steps rules₀ at₀ k₀ k-end rules at k = k-end - k
+
+loop-holds : tie.Need-loop-holds Inv-loop μ-loop
+loop-holds c = (omega arith, record { runs = refl; room = c .pre .0 }, omega arith, search (needs, length-mapped))
+
+mul-step : tie.Need-mul-step Inv-loop μ-loop
+mul-step c = omega arith
+
+element-copy-out-step : tie.Need-element-copy-out-step Inv-loop μ-loop
+element-copy-out-step c = omega arith
+
+add-duration-requires : tie.Need-add-duration-requires Inv-loop μ-loop
+add-duration-requires c κs = (Room-less (c .before .before .loop .inv .1 .room) 2 (omega arith), omega arith)
+
+add-at : tie.Need-add-at Inv-loop μ-loop
+add-at c = omega arith
+
+add-k : tie.Need-add-k Inv-loop μ-loop
+add-k c = omega arith
+
+loop-less : tie.Need-loop-less Inv-loop μ-loop
+loop-less c = omega arith
+
+loop-again : tie.Need-loop-again Inv-loop μ-loop
+loop-again c = let L = c .before .before .before .loop in
+    let A = c .before .before .before .before .args in
+    let s = getD (A .t3 .steps) (L .k) noStep in
+    let later = drop (L .k + 1) (stepsOf (A .t3)) in
+    let next : durations (L .at) (drop (L .k) (stepsOf (A .t3))) ≡ durations (L .at) (s ∷ []) ++ durations (L .at + 1) later =
+    ap (durations (L .at)) (held-next (A .t3 .count) (A .t3 .steps) (L .k) noStep (omega arith) (omega arith))
+    ∙ durations-next (L .at) s later
+    ∙ ap (λ (i : ℕ). durations (L .at) (s ∷ []) ++ durations i later) (sym (add-one (L .at))) in (
+      omega arith,
+      grows (c .add-duration .result) (durations (L .at) (s ∷ [])) (durations (L .at + 1) later) 2 (16 - (L .k + 1 + (L .k + 1))) (L .inv .1) next
+          (c .add-duration .ensures) (durations-two (L .at) s) (omega arith),
+      omega arith,
+      L .inv .3,
+    )
+
+returns : tie.Need-returns Inv-loop μ-loop
+unfolding durations
+returns c = let L = c .before .loop in
+    let steps = c .before .before .args .t3 in
+    grown (L .inv .1) (ap (durations (L .at)) (held-over (steps .count) (steps .steps) (L .k) (omega arith)))
+
+pub add-durations-spec : {M : Type 1} → statement M
+add-durations-spec =
+    tie.close
+    (tie.spec
+    Inv-loop
+    μ-loop
+    loop-holds
+    mul-step
+    element-copy-out-step
+    add-duration-requires
+    add-at
+    add-k
+    loop-less
+    loop-again
+    returns)

@@ -1,0 +1,104 @@
+-- `start_rules` meets its contract. The loop goes down the list of jobs: the rules so far and those of the jobs that are left are all that
+-- is wanted (`Growing`), and one place is used up by each job.
+use Prim.Native.Nat.{_≤_, _-_, _+_}
+use mathlib.Core.List.{List, [], _++_}
+use mathlib.Core.Path.{_≡_, sym, _∙_, ap}
+use lib.ListN.{drop, length, getD}
+use native.Mathlib.Omega.{arith}
+use borrow.Author.Needs.{needs}
+use Rattle.plain.specs.Plain.{starts, total}
+use Rattle.lines.specs.Held.{jobsOf, noJob}
+use Rattle.plain.specs.declared.Rule.{Rule}
+use Rattle.lines.proofs.Lists.{held-next, held-over, length-mapped}
+use Rattle.lines.proofs.RuleLaws.{Growing, grows, grown, Room-of, Room-less, rules-back, startRule, starts-next, starts-one}
+use Rattle.lines.proofs.rulelist.start_rules.Statement.{statement}
+use Rattle.lines.proofs.rulelist.start_rules.Tie as tie
+
+abbrev Inv-loop : tie.InvT-loop
+Inv-loop time jobs rules₀ x₀ k₀ k-end rules x k = (k ≤ k-end)
+    × Growing (starts time 1 (jobsOf jobs)) rules (starts time x (drop k (jobsOf jobs))) (16 - k)
+    × (x + total (drop k (jobsOf jobs)) ≡ 1 + total (jobsOf jobs))
+    × (length (jobs .jobs) ≡ 16)
+
+abbrev μ-loop : tie.MeasureT-loop
+μ-loop time jobs rules₀ x₀ k₀ k-end rules x k = k-end - k
+
+no-rules-requires : tie.Need-no-rules-requires Inv-loop μ-loop
+no-rules-requires c κs = search needs
+
+loop-holds : tie.Need-loop-holds Inv-loop μ-loop
+loop-holds c = let r = c .no-rules .result in
+    let e = c .no-rules .ensures in
+    let js = jobsOf (c .before .args .t2) in (
+      omega arith,
+      record {
+        runs = ap (λ (l : List Rule). l ++ starts (c .before .args .time) 1 js) (sym (rules-back r [] e (omega arith)));
+        room = Room-of r [] 16 e (omega arith);
+      },
+      omega arith,
+      search (needs, length-mapped),
+    )
+
+mul-job : tie.Need-mul-job Inv-loop μ-loop
+mul-job c = omega arith
+
+element-copy-out-job : tie.Need-element-copy-out-job Inv-loop μ-loop
+element-copy-out-job c = omega arith
+
+add-start-requires : tie.Need-add-start-requires Inv-loop μ-loop
+add-start-requires c κs = Room-less (c .before .before .loop .inv .1 .room) 1 (omega arith)
+
+add-x : tie.Need-add-x Inv-loop μ-loop
+unfolding total
+add-x c =
+    let entry = c .before .before .before .before .before .before in
+    let q = entry .args .t2 in
+    omega (arith, ap total (held-next (q .count) (q .jobs) (c .before .before .before .before .loop .k) noJob (omega arith) (omega arith)), entry .pre .points)
+
+add-k : tie.Need-add-k Inv-loop μ-loop
+add-k c = omega arith
+
+loop-less : tie.Need-loop-less Inv-loop μ-loop
+loop-less c = omega arith
+
+loop-again : tie.Need-loop-again Inv-loop μ-loop
+unfolding total
+loop-again c =
+    let entry = c .before .before .before .before .before .before in
+    let L = c .before .before .before .before .loop in
+    let q = entry .args .t2 in
+    let t = entry .args .time in
+    let j = getD (q .jobs) (L .k) noJob in
+    let later = drop (L .k + 1) (jobsOf q) in
+    let next = held-next (q .count) (q .jobs) (L .k) noJob (omega arith) (omega arith) in (
+      omega arith,
+      grows (c .before .add-start .result) (startRule t (L .x) (j .sent)) (starts t (L .x + j .points) later) 1 (16 - (L .k + 1)) (L .inv .1)
+          (ap (starts t (L .x)) next ∙ starts-next t (L .x) j later) (c .before .add-start .ensures) (starts-one t (L .x) (j .sent)) (omega arith),
+      omega (arith, ap total next),
+      L .inv .3,
+    )
+
+returns : tie.Need-returns Inv-loop μ-loop
+unfolding starts
+returns c =
+    let entry = c .before .before .before in
+    let L = c .before .loop in
+    let q = entry .args .t2 in
+    grown (L .inv .1) (ap (starts (entry .args .time) (L .x)) (held-over (q .count) (q .jobs) (L .k) (omega arith)))
+
+pub start-rules-spec : {M : Type 1} → statement M
+start-rules-spec =
+    tie.close
+    (tie.spec
+    Inv-loop
+    μ-loop
+    no-rules-requires
+    loop-holds
+    mul-job
+    element-copy-out-job
+    add-start-requires
+    add-x
+    add-k
+    loop-less
+    loop-again
+    returns)

@@ -1,0 +1,60 @@
+-- What the code asks of its arguments, so that no index is out of range and no sum wraps. Soundness and reading show it.
+--   Sized jobs       as many jobs and points as document 01 allows
+--   Short u          a use's offset and length are in range, so its end fits a u32;  AllShort us: each use of a line
+--   Lined lines      no line holds more than 32, and each use is Short
+--   Ready lines      the same of lines that have 0 in every place not in use
+--   Room n rules     n more rules fit
+--   Readable p       an allocation's numbers are in range;  Read puts: there are at most 32, each Readable
+use Prim.Native.Nat.{ℕ, _+_, _≤_, _<_}
+use mathlib.Core.Path.{_≡_}
+use mathlib.Core.List.{List, []}
+use lib.ListN.{length, getD}
+use Rattle.plain.specs.Plain.{noUse, total}
+use Rattle.lines.specs.Held.{jobsOf, linesOf, linesFrom, rulesOf, rulesFrom, noLine, noPut}
+use Rattle.lines.specs.declared.Jobs.{Jobs}
+use Rattle.plain.specs.declared.Use.{Use}
+use Rattle.lines.specs.declared.Line.{Line}
+use Rattle.lines.specs.declared.rulelist.Rules.{Rules}
+use Rattle.plain.specs.declared.Put.{Put}
+use Rattle.lines.specs.declared.Puts.{Puts}
+
+-- "At most 16 jobs and, beside the origin, 64 points are live."
+pub record Sized (jobs : Jobs) : Type 0 where
+  pub count : jobs .count ≤ 16
+  pub points : total (jobsOf jobs) ≤ 64
+
+-- "offset (0 to 1,000,000), length (1 to 1,000,000)"
+pub record Short (u : Use) : Type 0 where
+  pub offset : u .offset ≤ 1000000
+  pub length : u .length ≤ 1000000
+
+abbrev pub AllShort : List Use → Type 0
+AllShort us = (k : ℕ) → Short (getD us k noUse)
+
+-- "A line holds at most 32."
+pub record Lined (lines : List Line) : Type 0 where
+  pub counts : (k : ℕ) → getD lines k noLine .count ≤ 32
+  pub short : (i : ℕ) → AllShort (getD (linesOf lines) i [])
+
+pub record Ready (lines : List Line) : Type 0 where
+  pub sixteen : length lines ≡ 16
+  pub tidy : lines ≡ linesFrom (linesOf lines)
+  pub short : (i : ℕ) → AllShort (getD (linesOf lines) i [])
+
+pub record Room (n : ℕ) (rules : Rules) : Type 0 where
+  -- the array has the places
+  pub fits : rules .count + n ≤ 82
+  -- and 0 in those not in use
+  pub tidy : rules ≡ rulesFrom (rulesOf rules)
+
+-- "n allocations of resource (0 to 15), offset (0 to 1,000,000), length (1 to 1,000,000)", in one of at most 8 steps
+pub record Readable (p : Put) : Type 0 where
+  pub resource : p .resource < 16
+  pub step : p .step ≤ 8
+  pub offset : p .offset ≤ 1000000
+  pub length : p .length ≤ 1000000
+
+-- 8 steps of at most 4 allocations
+pub record Read (puts : Puts) : Type 0 where
+  pub count : puts .count ≤ 32
+  pub each : (k : ℕ) → k < puts .count → Readable (getD (puts .puts) k noPut)

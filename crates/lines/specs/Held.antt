@@ -1,0 +1,98 @@
+-- Arrays as lists, and lists laid into arrays. The plain machine is over lists; the code holds each in an array with a count. Only these
+-- names stand between the two.
+--   jobsOf, lineOf, linesOf, rulesOf, putsOf, stepsOf   the list that is held: the first `count` places
+--   jobsFrom, lineFrom, linesFrom, rulesFrom            the list laid into an array, 0 in every place not in use
+--   noJob, noRule, noPut, noStep, noLine                what a place not in use holds; `noUse` is the plain machine's
+-- Answers of the code as answers of the plain machine:
+--   endRule d last e   rule (e) with a job whose last point is e - 1; none where e is 0
+--   answerOf r         what placing came to: by its ruling `answered`
+--   stateOf, offerOf   a board's jobs, lines and numbers as a state; what was read of an offer as an offer
+--   draftOf            what a draft comes to: where refused, jobs and lines as they came
+use Prim.Native.Nat.{ℕ, zero, suc}
+use mathlib.Core.Bool.{false}
+use mathlib.Core.List.{List, [], _∷_, map}
+use lib.ListN.{length, take}
+use Rattle.rulings.specs.declared.Ruling.{Ruling}
+use Rattle.rulings.specs.declared.Ruling.the-variants.{Accepted, Refused}
+use Rattle.lines.specs.Padded.{padded}
+use Rattle.plain.specs.Plain.{State, Offer, Placed, Draft, noUse}
+use Rattle.plain.specs.declared.Job.{Job}
+use Rattle.lines.specs.declared.Jobs.{Jobs}
+use Rattle.plain.specs.declared.Use.{Use}
+use Rattle.lines.specs.declared.Line.{Line}
+use Rattle.plain.specs.declared.Rule.{Rule}
+use Rattle.lines.specs.declared.rulelist.Rules.{Rules}
+use Rattle.plain.specs.declared.Put.{Put}
+use Rattle.lines.specs.declared.Puts.{Puts}
+use Rattle.plain.specs.declared.Step.{Step}
+use Rattle.lines.specs.declared.Steps.{Steps}
+use Rattle.lines.specs.declared.placing.Placing.{Placing}
+use Rattle.lines.specs.declared.drafting.Drafted.{Drafted}
+
+abbrev pub noJob : Job
+noJob = record { points = 0; batch = 0; sent = false }
+
+abbrev pub noRule : Rule
+noRule = record { early = 0; more = 0; late = 0; slack = 0 }
+
+abbrev pub noPut : Put
+noPut = record { resource = 0; place = 0; step = 0; offset = 0; length = 0 }
+
+abbrev pub noStep : Step
+noStep = record { shortest = 0; longest = 0 }
+
+-- no array of lines has it; it is what reading past their end would give
+abbrev pub noLine : Line
+noLine = record { count = 0; uses = [] }
+
+abbrev pub jobsOf : Jobs → List Job
+jobsOf j = take (j .count) (j .jobs)
+
+abbrev pub jobsFrom : List Job → Jobs
+jobsFrom js = record { count = length js; jobs = padded 16 noJob js }
+
+abbrev pub lineOf : Line → List Use
+lineOf l = take (l .count) (l .uses)
+
+abbrev pub lineFrom : List Use → Line
+lineFrom us = record { count = length us; uses = padded 32 noUse us }
+
+abbrev pub linesOf : List Line → List (List Use)
+linesOf = map lineOf
+
+abbrev pub linesFrom : List (List Use) → List Line
+linesFrom = map lineFrom
+
+abbrev pub rulesOf : Rules → List Rule
+rulesOf r = take (r .count) (r .rules)
+
+abbrev pub rulesFrom : List Rule → Rules
+rulesFrom rs = record { count = length rs; rules = padded 82 noRule rs }
+
+abbrev pub putsOf : Puts → List Put
+putsOf p = take (p .count) (p .puts)
+
+abbrev pub stepsOf : Steps → List Step
+stepsOf s = take (s .count) (s .steps)
+
+unfoldable pub endRule : ℕ → ℕ → ℕ → List Rule
+endRule d last zero = []
+endRule d last (suc e) = record { early = e; more = d; late = last; slack = 0 } ∷ []
+
+unfoldable pub answered : Ruling → List (List Use) → List Rule → Placed
+answered Accepted ls rs = Placed.done ls rs
+answered (Refused c) ls rs = Placed.stop c
+
+abbrev pub answerOf : Placing → Placed
+answerOf r = answered (r .ruling) (linesOf (r .lines)) (rulesOf (r .rules))
+
+abbrev pub stateOf : Jobs → List Line → ℕ → ℕ → ℕ → State
+stateOf jobs lines clock horizon lead =
+    record { jobs = jobsOf jobs; lines = linesOf lines; clock = clock; horizon = horizon; lead = lead }
+
+abbrev pub offerOf : ℕ → Steps → Puts → Offer
+offerOf batch steps puts = record { batch = batch; steps = stepsOf steps; puts = putsOf puts }
+
+unfoldable pub draftOf : Jobs → List Line → Draft → Drafted
+draftOf jobs lines (Draft.stop c) = record { ruling = Refused c; jobs = jobs; lines = lines; rules = rulesFrom [] }
+draftOf jobs lines (Draft.go s n rs) = record { ruling = Accepted; jobs = jobsFrom (s .jobs); lines = linesFrom (s .lines); rules = rulesFrom rs }

@@ -1,0 +1,1 @@
+// What loops over a slice leave behind, as functions on lists: definitions (specs/) and laws (proofs/). Nothing in it is run.
