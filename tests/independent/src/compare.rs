@@ -1,45 +1,32 @@
 //! Holds another implementation's answers to a call log against this one's, and the fact check
 //! against its forward definition; also counts what was seen, so that a poor log is told.
 
+mod answers;
+mod floors;
+mod sights;
+mod tally;
+
 use crate::facts::{fact_check, fact_check_forward};
+use crate::kind::Kind;
 use crate::log::{self, Item};
 use crate::replay::{Answer, Session};
 use crate::ruling::Ruling;
+use answers::{first_difference, Answers};
+use sights::Sight;
 use std::collections::BTreeMap;
 use std::fmt;
 use std::io::{self, BufRead};
+use tally::Tally;
 
 /// How many differences are told in full.
 const MOST_TOLD: usize = 5;
-
-/// How often a log must show each of these numbers.
-const LEAST_SEEN: usize = 50;
-const CHECK_NUMBERS: [u32; 5] = [0, 1, 2, 3, 4];
-const FACT_NUMBERS: [u32; 12] = [0, 1, 2, 3, 4, 7, 8, 9, 10, 11, 12, 13];
-
-/// Numbers with the last value they can have; a log must show each with 0 and with the last.
-const CHECK_ENDS: [(u32, u32); 2] = [(3, 127), (4, 127)];
-const FACT_ENDS: [(u32, u32); 4] = [(8, 7), (11, 7), (12, 7), (13, 31)];
-
-/// How many offers of each outcome must have been run forward as well.
-const LEAST_FORWARD: usize = 3_000;
-const LEAST_FORWARD_GOAL_CLASHES: usize = 300;
-
-/// How often each number was seen with each value.
-#[derive(Default)]
-struct Tally(BTreeMap<(u32, Option<u32>), usize>);
 
 /// What a comparison saw and found.
 #[derive(Default)]
 pub struct Comparison {
     lists: usize,
-    checks: Tally,
-    facts: Tally,
-    parts_empty: usize,
-    parts_filled: usize,
-    forward_passed: usize,
-    forward_failed: usize,
-    forward_goal_clashes: usize,
+    calls: BTreeMap<&'static str, Tally>,
+    sights: BTreeMap<Sight, usize>,
     differences: usize,
     told: Vec<String>,
 }
@@ -47,9 +34,9 @@ pub struct Comparison {
 /// Replays the log and compares answer by answer, both streaming.
 pub fn compare(log: impl BufRead, answers: impl BufRead) -> io::Result<Comparison> {
     let mut comparison = Comparison::default();
-    let mut session = Session::default();
-    let mut answers = answers.lines();
-    let mut plant_line = 0;
+    let mut session: Session = Session::default();
+    let mut answers = Answers::new(answers);
+    let mut list_line = 0;
     for (number, line) in (1..).zip(log.lines()) {
         let line = line?;
         let item = match log::parse(&line) {
@@ -61,26 +48,29 @@ pub fn compare(log: impl BufRead, answers: impl BufRead) -> io::Result<Compariso
             }
         };
         let Some(answer) = session.answer(&item) else {
-            plant_line = number;
+            comparison.count_by_hand(&item, &session);
             continue;
         };
         comparison.count(&item, &answer);
+        if let Answer::List(_) = answer {
+            list_line = number;
+        }
         let expected = answer.to_string();
-        let Some(got) = answers.next().transpose()? else {
+        let Some(got) = answers.next()? else {
             comparison.differ(format!("line {number}: {line}\n  the answer is missing"));
             return Ok(comparison);
         };
-        if got != expected {
+        if let Some((expected, got)) = first_difference(&expected, &got) {
             comparison.differ(format!(
                 "line {number}: {line}\n  expected {expected}\n  got      {got}\n  \
-                 the last plant before it is in line {plant_line}"
+                 its list begins in line {list_line}"
             ));
         }
         if let Item::Fact(offer) = &item {
             comparison.compare_forward(number, session.plant(), offer);
         }
     }
-    if let Some(surplus) = answers.next().transpose()? {
+    if let Some(surplus) = answers.next()? {
         comparison.differ(format!("a surplus answer after the last: {surplus}"));
     }
     Ok(comparison)
@@ -95,13 +85,32 @@ impl Comparison {
     }
 
     fn count(&mut self, item: &Item, answer: &Answer) {
-        match (item, answer) {
-            (Item::Check, Answer::Ruling(ruling)) => self.checks.count(*ruling),
-            (_, Answer::Ruling(ruling)) => self.facts.count(*ruling),
-            (_, Answer::Part([])) => self.parts_empty += 1,
-            (_, Answer::Part(_)) => self.parts_filled += 1,
-            (_, Answer::List(_)) => self.lists += 1,
+        if let Answer::Ruling(ruling) = answer {
+            self.calls.entry(item.word()).or_default().count(*ruling);
         }
+        for sight in Sight::all_of(answer) {
+            self.see(sight);
+        }
+        if let Answer::List(_) = answer {
+            self.lists += 1;
+        }
+    }
+
+    fn count_by_hand(&mut self, item: &Item, session: &Session) {
+        if let Item::Board(_) = item {
+            match session.board().book() {
+                Ok(_) => self.see(Sight::SoundByHand),
+                Err(_) => self.see(Sight::UnsoundByHand),
+            }
+        }
+    }
+
+    fn see(&mut self, sight: Sight) {
+        *self.sights.entry(sight).or_default() += 1;
+    }
+
+    fn seen(&self, sight: Sight) -> usize {
+        self.sights.get(&sight).copied().unwrap_or(0)
     }
 
     fn compare_forward(&mut self, number: usize, plant: &[u8], offer: &[u8]) {
@@ -114,41 +123,54 @@ impl Comparison {
             self.differ(text);
         }
         if passed {
-            self.forward_passed += 1;
+            self.see(Sight::ForwardPassed);
         } else {
-            self.forward_failed += 1;
+            self.see(Sight::ForwardFailed);
         }
         // Only the goal can have clashed: no offer with a known fact both ways is run forward.
         if ruling.number() == 10 {
-            self.forward_goal_clashes += 1;
+            self.see(Sight::ForwardGoalClash);
         }
     }
 
+    /// How many calls were compared; showing the board is none.
     fn calls(&self) -> usize {
-        self.checks.total() + self.facts.total() + self.parts_empty + self.parts_filled
+        let parts = self.seen(Sight::EmptyPart) + self.seen(Sight::FilledPart);
+        parts + self.calls.values().map(Tally::total).sum::<usize>()
     }
 
     /// All that speaks against the answers or the log; empty if the comparison succeeded.
-    pub fn faults(&self) -> Vec<String> {
+    pub fn faults(&self, kind: Kind) -> Vec<String> {
         let mut faults = self.told.clone();
         if self.differences > self.told.len() {
             faults.push(format!("{} differences in all", self.differences));
         }
-        faults.extend(self.checks.unseen("check", &CHECK_NUMBERS, &CHECK_ENDS));
-        faults.extend(self.facts.unseen("fact", &FACT_NUMBERS, &FACT_ENDS));
-        let counts = [
-            ("empty parts", self.parts_empty, LEAST_SEEN),
-            ("parts with bytes", self.parts_filled, LEAST_SEEN),
-            ("passed forward", self.forward_passed, LEAST_FORWARD),
-            ("failed forward", self.forward_failed, LEAST_FORWARD),
-            (
-                "goals that clash, run forward",
-                self.forward_goal_clashes,
-                LEAST_FORWARD_GOAL_CLASHES,
-            ),
-        ];
-        for (what, seen, least) in counts {
+        let none = Tally::default();
+        let least = floors::least_seen(kind);
+        for floor in floors::floors(kind) {
+            let call = floor.call;
+            let tally = self.calls.get(call).unwrap_or(&none);
+            let numbers = floor
+                .numbers
+                .iter()
+                .map(|&number| (number, tally.times(number)));
+            for (number, times) in numbers.filter(|&(_, times)| times < least) {
+                faults.push(format!(
+                    "{call} {number}: seen {times} times, wanted {least}"
+                ));
+            }
+            let ends = floor
+                .ends
+                .iter()
+                .flat_map(|&(number, last)| [(number, 0), (number, last)]);
+            for (number, value) in ends.filter(|&(number, value)| !tally.has(number, value)) {
+                faults.push(format!("{call} {number} {value}: not seen"));
+            }
+        }
+        for &(sight, least) in floors::sights(kind) {
+            let seen = self.seen(sight);
             if seen < least {
+                let what = sight.name();
                 faults.push(format!("{what}: seen {seen} times, wanted {least}"));
             }
         }
@@ -156,70 +178,17 @@ impl Comparison {
     }
 }
 
-impl Tally {
-    fn count(&mut self, ruling: Ruling) {
-        *self.0.entry((ruling.number(), ruling.value())).or_default() += 1;
-    }
-
-    fn total(&self) -> usize {
-        self.0.values().sum()
-    }
-
-    fn by_number(&self) -> BTreeMap<u32, usize> {
-        let mut seen = BTreeMap::new();
-        for ((number, _), times) in &self.0 {
-            *seen.entry(*number).or_default() += times;
-        }
-        seen
-    }
-
-    fn unseen(&self, call: &str, numbers: &[u32], ends: &[(u32, u32)]) -> Vec<String> {
-        let mut unseen = Vec::new();
-        let seen = self.by_number();
-        for number in numbers {
-            let times = seen.get(number).copied().unwrap_or(0);
-            if times < LEAST_SEEN {
-                let text = format!("{call} {number}: seen {times} times, wanted {LEAST_SEEN}");
-                unseen.push(text);
-            }
-        }
-        for &(number, last) in ends {
-            for value in [0, last] {
-                if !self.0.contains_key(&(number, Some(value))) {
-                    unseen.push(format!("{call} {number} {value}: not seen"));
-                }
-            }
-        }
-        unseen
-    }
-}
-
-/// The numbers with how often each was seen.
-impl fmt::Display for Tally {
-    fn fmt(&self, f: &mut fmt::Formatter) -> fmt::Result {
-        for (number, times) in self.by_number() {
-            write!(f, "  {number}: {times}")?;
-        }
-        Ok(())
-    }
-}
-
 /// The summary.
 impl fmt::Display for Comparison {
     fn fmt(&self, f: &mut fmt::Formatter) -> fmt::Result {
-        writeln!(f, "compared {} calls in {} lists", self.calls(), self.lists)?;
-        writeln!(f, "check{}", self.checks)?;
-        writeln!(f, "fact {}", self.facts)?;
-        writeln!(
-            f,
-            "part   empty: {}  with bytes: {}",
-            self.parts_empty, self.parts_filled
-        )?;
-        write!(
-            f,
-            "forward  passed: {}  failed: {} ({} by a goal that clashes)",
-            self.forward_passed, self.forward_failed, self.forward_goal_clashes
-        )
+        write!(f, "compared {} calls in {} lists", self.calls(), self.lists)?;
+        for (call, tally) in &self.calls {
+            write!(f, "\n{call:6}{tally}")?;
+        }
+        for (sight, times) in &self.sights {
+            write!(f, "\n{}: {times}", sight.name())?;
+        }
+        Ok(())
     }
 }
 
@@ -229,8 +198,8 @@ mod tests {
 
     const LOG: &str = "# a comment\nlist a\n\nplant 00\ncheck\npart 3\nfact -\n";
 
-    fn told(answers: &str) -> Vec<String> {
-        compare(LOG.as_bytes(), answers.as_bytes()).unwrap().told
+    fn told(log: &str, answers: &str) -> Vec<String> {
+        compare(log.as_bytes(), answers.as_bytes()).unwrap().told
     }
 
     #[test]
@@ -251,7 +220,25 @@ mod tests {
             ("list a\n= 1\n= 0 -\n= 1\n\n", "a surplus answer"),
         ];
         for (answers, text) in cases {
-            let told = told(answers);
+            let told = told(LOG, answers);
+            assert_eq!(told.len(), 1, "{told:?}");
+            assert!(told[0].contains(text), "{told:?}");
+        }
+    }
+
+    #[test]
+    fn answers_of_more_lines_are_compared_whole() {
+        let log = "fresh 9 1\ntable\nstate\nclock 10\n";
+        let right = "= 0\ntable 1\nt 0\nstate 0 0\n= 19\n";
+        assert!(told(log, right).is_empty());
+        let cases = [
+            ("= 0\ntable 1\nt 1\nstate 0 0\n= 19\n", "got      t 1"),
+            ("= 0\ntable 1\nstate 0 0\n= 19\n", "expected t 0"),
+            ("= 0\ntable 1\nt 0\nt 0\nstate 0 0\n= 19\n", "got      t 0"),
+            ("= 0\ntable 1\nt 0\nstate 0 0\nj 2 0 0\n= 19\n", "j 2 0 0"),
+        ];
+        for (answers, text) in cases {
+            let told = told(log, answers);
             assert_eq!(told.len(), 1, "{told:?}");
             assert!(told[0].contains(text), "{told:?}");
         }
@@ -261,6 +248,8 @@ mod tests {
     fn a_poor_log_is_told() {
         let comparison = compare("".as_bytes(), "".as_bytes()).unwrap();
         assert_eq!(comparison.differences, 0);
-        assert!(!comparison.faults().is_empty());
+        for kind in [Kind::Read, Kind::Board, Kind::Retire] {
+            assert!(!comparison.faults(kind).is_empty());
+        }
     }
 }

@@ -45,7 +45,11 @@ pub fn fact_check(plant: &[u8], offer: &[u8]) -> Ruling {
 
 fn work_back(plant: &[u8], offer: &[u8]) -> Result<(), Refusal> {
     let plant = Plant::read(plant)?;
-    let offer = Offer::read(&plant, offer)?;
+    check_facts(&Offer::read(&plant, offer)?)
+}
+
+/// Refusals 10 to 13 of an offer in right format.
+pub fn check_facts(offer: &Offer) -> Result<(), Refusal> {
     let known = offer.known;
     if known.both_ways() != 0 || offer.goal.both_ways() != 0 {
         return Err(Refusal::Contradiction);

@@ -1,15 +1,19 @@
-//! Call logs for the comparison: first lists that go through every limit, then random ones.
+//! Call logs for the comparison: first lists that go through every limit, then random ones. Here
+//! are the logs of what reads; those of board calls are in `boards`.
 
 pub mod draft;
 
+mod boards;
 mod damage;
+mod invent;
 mod offers;
 mod plants;
 mod random;
-mod rng;
+pub mod rng;
 mod sweeps;
 mod world;
 
+use crate::kind::Kind;
 use crate::log::Item;
 use rng::Rng;
 use std::io::{self, Write};
@@ -37,19 +41,26 @@ const SYSTEMATIC: [(&str, Scenario); 13] = [
     ("sweeps", sweeps::sweeps),
 ];
 
-/// Writes a log of so many calls.
-pub fn generate(seed: u64, calls: u64, out: &mut impl Write) -> io::Result<()> {
+/// Writes a log of so many calls; one of board calls ends with the list that reaches them.
+pub fn generate(seed: u64, calls: u64, kind: Kind, out: &mut impl Write) -> io::Result<()> {
     let mut rng = Rng::new(seed);
+    writeln!(out, "# generate {seed} {calls} {kind}")?;
+    match kind {
+        Kind::Read => generate_reads(&mut rng, calls, out),
+        Kind::Board | Kind::Retire => boards::generate(&mut rng, calls, kind, out),
+    }
+}
+
+fn generate_reads(rng: &mut Rng, calls: u64, out: &mut impl Write) -> io::Result<()> {
     let mut calls_left = calls;
-    writeln!(out, "# generate {seed} {calls}")?;
     let random: (&str, Scenario) = ("random", random::random);
     let scenarios = SYSTEMATIC.into_iter().chain(std::iter::repeat(random));
     for (number, (name, scenario)) in scenarios.enumerate() {
         let mut list = List::default();
-        scenario(&mut rng, &mut list);
+        scenario(rng, &mut list);
         writeln!(out, "\n{}", Item::List(format!("{name}-{number}")))?;
         for item in list.0 {
-            if matches!(item, Item::Check | Item::Part(_) | Item::Fact(_)) {
+            if item.is_call() {
                 if calls_left == 0 {
                     return Ok(());
                 }
@@ -97,44 +108,66 @@ mod tests {
     use crate::ruling::Ruling;
     use world::World;
 
-    fn log(seed: u64, calls: u64) -> String {
+    const KINDS: [Kind; 3] = [Kind::Read, Kind::Board, Kind::Retire];
+
+    fn log(seed: u64, calls: u64, kind: Kind) -> String {
         let mut bytes = Vec::new();
-        generate(seed, calls, &mut bytes).unwrap();
+        generate(seed, calls, kind, &mut bytes).unwrap();
         String::from_utf8(bytes).unwrap()
     }
 
     #[test]
     fn a_seed_always_gives_the_same_log() {
-        assert_eq!(log(5, 30_000), log(5, 30_000));
-        assert_ne!(log(5, 30_000), log(6, 30_000));
+        for kind in KINDS {
+            let once = log(5, 26_000, kind);
+            assert!(once == log(5, 26_000, kind));
+            assert!(once != log(6, 26_000, kind));
+        }
     }
 
     #[test]
     fn a_log_is_well_formed_and_has_as_many_calls_as_asked() {
-        let mut calls = 0;
-        for line in log(1, 30_000).lines() {
-            match parse(line).unwrap() {
-                Some(Item::Plant(file)) => assert!(file.len() <= MOST_PLANT_BYTES),
-                Some(Item::Check | Item::Part(_) | Item::Fact(_)) => calls += 1,
-                Some(Item::List(_)) | None => {}
+        for kind in KINDS {
+            let mut calls = 0;
+            let mut retires = false;
+            for item in log(1, 30_000, kind)
+                .lines()
+                .map(|line| parse(line).unwrap())
+            {
+                calls += usize::from(item.as_ref().is_some_and(Item::is_call));
+                retires |= item == Some(Item::Retire);
+                if let Some(Item::Plant(file)) = item {
+                    assert!(file.len() <= MOST_PLANT_BYTES);
+                }
             }
+            let most = if kind == Kind::Read { 30_000 } else { 30_500 };
+            assert!((30_000..=most).contains(&calls), "{calls}");
+            assert_eq!(retires, kind == Kind::Retire);
         }
-        assert_eq!(calls, 30_000);
     }
 
     #[test]
     fn a_log_shows_all_that_a_comparison_wants() {
-        let log = log(2, 40_000);
-        let mut session = Session::default();
-        let mut answers = String::new();
-        for line in log.lines() {
-            let item = parse(line).unwrap();
-            if let Some(answer) = item.as_ref().and_then(|item| session.answer(item)) {
-                answers += &format!("{answer}\n");
+        for kind in KINDS {
+            let log = log(2, 40_000, kind);
+            let mut session: Session = Session::default();
+            let mut answers = String::new();
+            for line in log.lines() {
+                let item = parse(line).unwrap();
+                if let Some(answer) = item.as_ref().and_then(|item| session.answer(item)) {
+                    answers += &format!("{answer}\n");
+                }
             }
+            let comparison = compare(log.as_bytes(), answers.as_bytes()).unwrap();
+            assert_eq!(comparison.faults(kind), Vec::<String>::new());
         }
-        let comparison = compare(log.as_bytes(), answers.as_bytes()).unwrap();
-        assert_eq!(comparison.faults(), Vec::<String>::new());
+    }
+
+    #[test]
+    fn a_list_of_board_calls_ends_with_table_and_state() {
+        let log = log(3, 20_000, Kind::Board);
+        let mut lists = log.split("\nlist ").skip(1);
+        assert!(lists.all(|list| list.trim_end().ends_with("\ntable\nstate")));
     }
 
     #[test]

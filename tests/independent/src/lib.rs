@@ -1,21 +1,26 @@
 //! A second implementation of document 01, written from that document and the call log format
 //! alone. It shares no code with the product, so that a slip in one shows as a difference.
 //!
-//! It covers what reads: plant files, offers and the fact check. Its programs:
+//! It covers plant files, offers, the fact check, and boards but for the report. A board is there
+//! twice: by the definition, with a rule book that keeps every rule, and in a fast form with a gap
+//! table. Its programs:
 //!
-//! - `generate SEED CALLS` writes a call log to standard output; the lists that go through every
-//!   limit take about 24,000 calls, and `compare` wants some 30,000 to have seen enough.
-//! - `answer LOG` writes the answers this implementation gives.
-//! - `compare LOG ANSWERS` holds the answers that the product's replay of the log wrote against
-//!   this implementation's, and fails on a difference or if the log showed too little.
+//! - `generate SEED CALLS [KIND]` writes a call log to standard output. The kind is `read`,
+//!   `board`, or `retire` for boards with retire. The lists that go through every limit take up to
+//!   24,000 calls, and `compare` wants some 30,000 to have seen enough, of boards 60,000.
+//! - `answer LOG [fast]` writes the answers this implementation gives.
+//! - `compare LOG ANSWERS [KIND]` holds the answers that the product's replay of the log wrote
+//!   against this implementation's, and fails on a difference or if the log showed too little.
 //! - the package in `bench` times the product's fact check beside this one; SF_LIB_DIR names the
-//!   folder of `libfactcheck.a`.
+//!   folder of `libfactcheck.a`. With the feature `board` it times the fast form of boards too.
 
 #![forbid(unsafe_code)]
 
+pub mod board;
 pub mod compare;
 pub mod facts;
 pub mod generate;
+pub mod kind;
 pub mod log;
 pub mod offer;
 pub mod plant;

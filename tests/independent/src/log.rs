@@ -1,5 +1,6 @@
 //! Call logs: the items of a log, read from and written as lines.
 
+use crate::board::{Board, BOARD_WORDS};
 use std::fmt;
 
 /// The most bytes a `plant` line may have.
@@ -8,7 +9,7 @@ pub const MOST_PLANT_BYTES: usize = 16_384;
 /// A line of a call log that asks for something.
 #[derive(Clone, Debug, PartialEq, Eq)]
 pub enum Item {
-    /// Begins anew, with no plant.
+    /// Begins anew, with no plant and the board of a refused fresh.
     List(String),
     /// The plant file from now on.
     Plant(Vec<u8>),
@@ -18,6 +19,51 @@ pub enum Item {
     Part(u32),
     /// The fact check of an offer.
     Fact(Vec<u8>),
+    /// A fresh board with this horizon and lead.
+    Fresh(u32, u32),
+    /// Plan an offer.
+    Plan(Vec<u8>),
+    /// Send up to a place in the job list.
+    Send(u32),
+    /// Move the clock.
+    Clock(u32),
+    /// Retire the oldest job.
+    Retire,
+    /// The board from now on, made by hand.
+    Board(Board),
+    /// Show the gap table.
+    Table,
+    /// Show the rest of the board.
+    State,
+}
+
+impl Item {
+    /// The first word of its line.
+    pub fn word(&self) -> &'static str {
+        match self {
+            Item::List(_) => "list",
+            Item::Plant(_) => "plant",
+            Item::Check => "check",
+            Item::Part(_) => "part",
+            Item::Fact(_) => "fact",
+            Item::Fresh(..) => "fresh",
+            Item::Plan(_) => "plan",
+            Item::Send(_) => "send",
+            Item::Clock(_) => "clock",
+            Item::Retire => "retire",
+            Item::Board(_) => "board",
+            Item::Table => "table",
+            Item::State => "state",
+        }
+    }
+
+    /// Whether it is a call: changing what is current by hand or showing it is none.
+    pub fn is_call(&self) -> bool {
+        !matches!(
+            self,
+            Item::List(_) | Item::Plant(_) | Item::Board(_) | Item::Table | Item::State
+        )
+    }
 }
 
 /// Reads a line; `None` for one to pass over, an error for one that ends the replay.
@@ -32,6 +78,14 @@ pub fn parse(line: &str) -> Result<Option<Item>, &'static str> {
         ["check"] => Item::Check,
         ["part", action] => Item::Part(parse_number(action)?),
         ["fact", hex] => Item::Fact(parse_hex(hex)?),
+        ["fresh", horizon, lead] => Item::Fresh(parse_number(horizon)?, parse_number(lead)?),
+        ["plan", hex] => Item::Plan(parse_hex(hex)?),
+        ["send", place] => Item::Send(parse_number(place)?),
+        ["clock", to] => Item::Clock(parse_number(to)?),
+        ["retire"] => Item::Retire,
+        ["board", hex] => Item::Board(parse_board(hex)?),
+        ["table"] => Item::Table,
+        ["state"] => Item::State,
         _ => return Err("no such line"),
     };
     match &item {
@@ -60,6 +114,17 @@ fn parse_hex(word: &str) -> Result<Vec<u8>, &'static str> {
     bytes.ok_or("not lower-case hex")
 }
 
+fn parse_board(word: &str) -> Result<Board, &'static str> {
+    let bytes = parse_hex(word)?;
+    let (words, odd_bytes) = bytes.as_chunks();
+    let words: Vec<u32> = words.iter().copied().map(u32::from_le_bytes).collect();
+    let words: Result<&[u32; BOARD_WORDS], _> = words[..].try_into();
+    match words {
+        Ok(words) if odd_bytes.is_empty() => Ok(Board::from_words(words)),
+        _ => Err("not the words of a board"),
+    }
+}
+
 fn parse_digit(digit: u8) -> Option<u8> {
     match digit {
         b'0'..=b'9' => Some(digit - b'0'),
@@ -82,14 +147,24 @@ pub fn hex(bytes: &[u8]) -> String {
 
 impl fmt::Display for Item {
     fn fmt(&self, f: &mut fmt::Formatter) -> fmt::Result {
+        let word = self.word();
         match self {
-            Item::List(name) => write!(f, "list {name}"),
-            Item::Plant(file) => write!(f, "plant {}", hex(file)),
-            Item::Check => write!(f, "check"),
-            Item::Part(action) => write!(f, "part {action}"),
-            Item::Fact(offer) => write!(f, "fact {}", hex(offer)),
+            Item::List(name) => write!(f, "{word} {name}"),
+            Item::Plant(bytes) | Item::Fact(bytes) | Item::Plan(bytes) => {
+                write!(f, "{word} {}", hex(bytes))
+            }
+            Item::Part(number) | Item::Send(number) | Item::Clock(number) => {
+                write!(f, "{word} {number}")
+            }
+            Item::Fresh(horizon, lead) => write!(f, "{word} {horizon} {lead}"),
+            Item::Board(board) => write!(f, "{word} {}", hex(&bytes_of(&board.words()[..]))),
+            Item::Check | Item::Retire | Item::Table | Item::State => write!(f, "{word}"),
         }
     }
+}
+
+fn bytes_of(words: &[u32]) -> Vec<u8> {
+    words.iter().flat_map(|word| word.to_le_bytes()).collect()
 }
 
 #[cfg(test)]
@@ -105,6 +180,15 @@ mod tests {
             Item::Check,
             Item::Part(u32::MAX),
             Item::Fact(vec![0x0f, 0xf0]),
+            Item::Fresh(1, u32::MAX),
+            Item::Plan(vec![]),
+            Item::Send(16),
+            Item::Clock(100_000_001),
+            Item::Retire,
+            Item::Board(Board::default()),
+            Item::Board(Board::from_words(&[0x0102_0304; BOARD_WORDS])),
+            Item::Table,
+            Item::State,
         ];
         for item in items {
             assert_eq!(parse(&item.to_string()), Ok(Some(item)));
@@ -120,7 +204,20 @@ mod tests {
     #[test]
     fn other_lines_end_the_replay() {
         let too_long = Item::Plant(vec![0; MOST_PLANT_BYTES + 1]).to_string();
+        let board = Item::Board(Board::default()).to_string();
         let bad = [
+            "fresh 1",
+            "fresh 1 4294967296",
+            "send",
+            "clock -1",
+            "retire 0",
+            "board -",
+            &board[..board.len() - 2],
+            &board[..board.len() - 8],
+            &(board.clone() + "00"),
+            &(board.clone() + "00000000"),
+            "table 1",
+            "state ",
             "check ",
             " check",
             "Check",

@@ -14,6 +14,8 @@ pub struct Offer<'a> {
     step_count: usize,
     /// The action of each step; those from `step_count` on aren't used.
     actions: [Action<'a>; MOST_STEPS],
+    /// The words after the header: of each step its action number and its places.
+    steps: &'a [Word],
 }
 
 impl<'a> Offer<'a> {
@@ -21,7 +23,7 @@ impl<'a> Offer<'a> {
     #[inline]
     pub fn read(plant: &Plant<'a>, bytes: &'a [u8]) -> Result<Self, Refusal> {
         let (words, odd_bytes) = bytes.as_chunks();
-        let Some((header, mut rest)) = words.split_first_chunk::<6>() else {
+        let Some((header, steps)) = words.split_first_chunk::<6>() else {
             return Err(Refusal::OfferSize);
         };
         let [batch, known_true, known_false, goal_true, goal_false, step_count] =
@@ -30,6 +32,7 @@ impl<'a> Offer<'a> {
         if step_count == 0 || step_count > MOST_STEPS {
             return Err(Refusal::OfferSize);
         }
+        let mut rest = steps;
         let mut actions = [Action::default(); MOST_STEPS];
         for (step, slot) in (0..).zip(&mut actions[..step_count]) {
             let Some((action, _places, after)) = split_step(plant, rest) else {
@@ -47,6 +50,7 @@ impl<'a> Offer<'a> {
             goal: Facts::new(goal_true, goal_false),
             step_count,
             actions,
+            steps,
         })
     }
 
@@ -54,6 +58,44 @@ impl<'a> Offer<'a> {
     pub fn chain(&self) -> &[Action<'a>] {
         &self.actions[..self.step_count]
     }
+
+    /// Every allocation of the chain in offer order.
+    pub fn allocations(&self) -> impl Iterator<Item = Allocation> + use<'_, 'a> {
+        let mut rest = self.steps;
+        let steps = self.chain().iter().enumerate();
+        let allocations = steps.flat_map(move |(step, action)| {
+            let allocations = action.allocations();
+            let (places, after) = rest[1..].split_at(allocations.len());
+            rest = after;
+            let step = std::iter::repeat(step);
+            step.zip(allocations.iter().zip(places))
+        });
+        (0..)
+            .zip(allocations)
+            .map(|(number, (step, (allocation, place)))| {
+                let [resource, offset, length] = allocation.map(u32::from_le_bytes);
+                Allocation {
+                    number,
+                    step,
+                    resource: resource as usize,
+                    offset,
+                    length,
+                    place: u32::from_le_bytes(*place),
+                }
+            })
+    }
+}
+
+/// An allocation that an offer asks for.
+pub struct Allocation {
+    /// Its number in the offer, 0 first.
+    pub number: u32,
+    pub step: usize,
+    pub resource: usize,
+    pub offset: u32,
+    pub length: u32,
+    /// How many allocations of its line come before it.
+    pub place: u32,
 }
 
 /// Takes the first step, action and places, off the words; `None` if it runs past them or the
@@ -70,8 +112,11 @@ fn split_step<'a>(
 
 #[cfg(test)]
 mod tests {
+    use super::*;
     use crate::facts::fact_check;
-    use crate::generate::draft::{plant_file, proving_offer, proving_plant, OfferDraft};
+    use crate::generate::draft::{
+        plant_file, proving_offer, proving_plant, ActionDraft, OfferDraft,
+    };
 
     fn ruling_on(offer: &[u8]) -> (u32, Option<u32>) {
         let ruling = fact_check(&plant_file(&proving_plant()), offer);
@@ -135,5 +180,29 @@ mod tests {
             offer.left_over = vec![0; left_over];
             assert_eq!(ruling_on(&offer.bytes()), (9, None), "{left_over}");
         }
+    }
+
+    #[test]
+    fn allocations_are_counted_through_all_steps() {
+        let one = ActionDraft::new(Facts::NONE, Facts::NONE, &[[7, 8, 9]]);
+        let two = ActionDraft::new(Facts::NONE, Facts::NONE, &[[1, 2, 3], [4, 5, 6]]);
+        let none = ActionDraft::new(Facts::NONE, Facts::NONE, &[]);
+        let actions = [one, two, none];
+        let mut offer = OfferDraft::new(Facts::NONE, Facts::NONE, &actions, &[1, 2, 0]);
+        offer.steps[0].places = vec![10, 20];
+        offer.steps[2].places = vec![30];
+        let (plant, offer) = (plant_file(&actions), offer.bytes());
+        let plant = Plant::read(&plant).unwrap();
+        let offer = Offer::read(&plant, &offer).unwrap();
+        let seen: Vec<_> = offer
+            .allocations()
+            .map(|a| (a.number, a.step, a.resource, a.offset, a.length, a.place))
+            .collect();
+        let expected = [
+            (0, 0, 1, 2, 3, 10),
+            (1, 0, 4, 5, 6, 20),
+            (2, 2, 7, 8, 9, 30),
+        ];
+        assert_eq!(seen, expected);
     }
 }

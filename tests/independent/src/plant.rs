@@ -8,7 +8,7 @@ const MOST_ACTIONS: u32 = 128;
 const MOST_ALLOCATIONS: u32 = 4;
 const MOST_RESOURCE: u32 = 15;
 /// The longest duration, offset and length, in milliseconds.
-const MOST_TIME: u32 = 1_000_000;
+pub const MOST_TIME: u32 = 1_000_000;
 
 /// A field of a file: a u32, low byte first.
 pub type Word = [u8; 4];

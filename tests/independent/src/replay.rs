@@ -1,44 +1,64 @@
-//! Replays the items of a call log on one current plant.
+//! Replays the items of a call log on one current plant and one current board.
 
+use crate::board::{Board, BoardCalls, Definition, State, Table};
 use crate::facts::fact_check;
 use crate::log::{hex, Item};
 use crate::plant::{allocations, check_plant};
 use crate::ruling::Ruling;
 use std::fmt;
 
-/// What is current between two items.
+/// What is current between two items; the board is kept in one of its two forms.
 #[derive(Default)]
-pub struct Session {
+pub struct Session<B = Definition> {
     plant: Vec<u8>,
+    board: B,
 }
 
-/// The answer to an item; shown, it is the answer line.
+/// The answer to an item; shown, it is the answer's lines.
 pub enum Answer<'a> {
     List(&'a str),
     Ruling(Ruling),
     Part(&'a [u8]),
+    Table(Board),
+    State(Board),
 }
 
-impl Session {
+impl<B: BoardCalls> Session<B> {
     /// Does what the item asks; `None` where the log shows no answer.
     pub fn answer<'a>(&'a mut self, item: &'a Item) -> Option<Answer<'a>> {
-        match item {
+        let ruling = match item {
             Item::List(name) => {
                 *self = Session::default();
-                Some(Answer::List(name))
+                return Some(Answer::List(name));
             }
             Item::Plant(file) => {
                 self.plant.clone_from(file);
-                None
+                return None;
             }
-            Item::Check => Some(Answer::Ruling(check_plant(&self.plant))),
-            Item::Part(action) => Some(Answer::Part(allocations(&self.plant, *action))),
-            Item::Fact(offer) => Some(Answer::Ruling(fact_check(&self.plant, offer))),
-        }
+            Item::Board(board) => {
+                self.board.take(board);
+                return None;
+            }
+            Item::Part(action) => return Some(Answer::Part(allocations(&self.plant, *action))),
+            Item::Table => return Some(Answer::Table(self.board.board())),
+            Item::State => return Some(Answer::State(self.board.board())),
+            Item::Check => check_plant(&self.plant),
+            Item::Fact(offer) => fact_check(&self.plant, offer),
+            Item::Fresh(horizon, lead) => self.board.fresh(*horizon, *lead).into(),
+            Item::Plan(offer) => self.board.plan(&self.plant, offer).into(),
+            Item::Send(place) => self.board.send(*place).into(),
+            Item::Clock(to) => self.board.clock(*to).into(),
+            Item::Retire => self.board.retire().into(),
+        };
+        Some(Answer::Ruling(ruling))
     }
 
     pub fn plant(&self) -> &[u8] {
         &self.plant
+    }
+
+    pub fn board(&self) -> &B {
+        &self.board
     }
 }
 
@@ -48,6 +68,8 @@ impl fmt::Display for Answer<'_> {
             Answer::List(name) => write!(f, "list {name}"),
             Answer::Ruling(ruling) => write!(f, "= {ruling}"),
             Answer::Part(part) => write!(f, "= 0 {}", hex(part)),
+            Answer::Table(board) => Table(board).fmt(f),
+            Answer::State(board) => State(board).fmt(f),
         }
     }
 }

@@ -13,6 +13,10 @@ pub enum Refusal {
     Record { action: u32 },
     /// 4: a number is out of range, or a fact stands both ways.
     Range { action: u32 },
+    /// 5: horizon or lead is out of range.
+    HorizonOrLead,
+    /// 6: the board isn't sound.
+    Unsound,
     /// 7: the offer is too short or its step count out of range.
     OfferSize,
     /// 8: a step runs past the offer or names an action the plant lacks.
@@ -27,6 +31,22 @@ pub enum Refusal {
     Clashes { step: u32 },
     /// 13: a needed fact isn't known so; the lowest such.
     Lacking { fact: u32 },
+    /// 14: there are 16 jobs, or the points would pass 64.
+    NoRoom,
+    /// 15: a place exceeds the number in its line.
+    Place { allocation: u32 },
+    /// 16: the line has 32 already.
+    LineFull { allocation: u32 },
+    /// 17: no timetable keeps all rules.
+    NoTimetable,
+    /// 18: the place has no unsent job.
+    NoUnsentJob,
+    /// 19: the clock would go back or pass the horizon.
+    ClockRange,
+    /// 20: no timetable is left after the clock's rules.
+    NoneAfterClock,
+    /// 21: there is no job to retire, or it is unsent, or something of it ends after the clock.
+    NotRetired,
 }
 
 impl Refusal {
@@ -37,6 +57,8 @@ impl Refusal {
             Refusal::PlantSize => (2, None),
             Refusal::Record { action } => (3, Some(action)),
             Refusal::Range { action } => (4, Some(action)),
+            Refusal::HorizonOrLead => (5, None),
+            Refusal::Unsound => (6, None),
             Refusal::OfferSize => (7, None),
             Refusal::Step { step } => (8, Some(step)),
             Refusal::LeftOver => (9, None),
@@ -44,6 +66,14 @@ impl Refusal {
             Refusal::Undoes { step } => (11, Some(step)),
             Refusal::Clashes { step } => (12, Some(step)),
             Refusal::Lacking { fact } => (13, Some(fact)),
+            Refusal::NoRoom => (14, None),
+            Refusal::Place { allocation } => (15, Some(allocation)),
+            Refusal::LineFull { allocation } => (16, Some(allocation)),
+            Refusal::NoTimetable => (17, None),
+            Refusal::NoUnsentJob => (18, None),
+            Refusal::ClockRange => (19, None),
+            Refusal::NoneAfterClock => (20, None),
+            Refusal::NotRetired => (21, None),
         }
     }
 }
@@ -61,7 +91,7 @@ impl Ruling {
         self.number_and_value().0
     }
 
-    /// The action, step or fact where the cause has one.
+    /// The action, step, fact or allocation where the cause has one.
     pub fn value(self) -> Option<u32> {
         self.number_and_value().1
     }

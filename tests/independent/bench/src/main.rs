@@ -1,5 +1,8 @@
 //! Times the product's fact check beside the independent one, on the same bytes in one run.
 
+#[cfg(feature = "board")]
+mod board;
+
 use independent::fact_check;
 use independent::facts::Facts;
 use independent::generate::draft::{plant_file, ActionDraft, OfferDraft};
@@ -112,5 +115,7 @@ fn main() -> ExitCode {
     let at_128 = cases.iter().filter(|case| case.actions == 128);
     let worst = at_128.map(Case::ratio).fold(0.0, f64::max);
     println!("ratio at 128 actions: {worst:.2} (goal {GOAL:.2})");
+    #[cfg(feature = "board")]
+    board::time_boards();
     ExitCode::SUCCESS
 }

@@ -1,5 +1,7 @@
-//! `answer LOG` writes the answers this implementation gives to a call log.
+//! `answer LOG [fast]` writes the answers this implementation gives to a call log: by the
+//! definition, or by the fast form of boards.
 
+use independent::board::{BoardCalls, Definition, Fast};
 use independent::log;
 use independent::replay::Session;
 use std::fs::File;
@@ -8,11 +10,16 @@ use std::process::ExitCode;
 
 fn main() -> ExitCode {
     let arguments: Vec<String> = std::env::args().skip(1).collect();
-    let [log] = &arguments[..] else {
-        eprintln!("usage: answer LOG");
-        return ExitCode::FAILURE;
+    let words: Vec<&str> = arguments.iter().map(String::as_str).collect();
+    let answered = match words[..] {
+        [log] => answer::<Definition>(log),
+        [log, "fast"] => answer::<Fast>(log),
+        _ => {
+            eprintln!("usage: answer LOG [fast]");
+            return ExitCode::FAILURE;
+        }
     };
-    match answer(log) {
+    match answered {
         Ok(()) => ExitCode::SUCCESS,
         Err(error) => {
             eprintln!("answer: {error}");
@@ -21,9 +28,9 @@ fn main() -> ExitCode {
     }
 }
 
-fn answer(path: &str) -> io::Result<()> {
+fn answer<B: BoardCalls>(path: &str) -> io::Result<()> {
     let mut out = BufWriter::new(io::stdout().lock());
-    let mut session = Session::default();
+    let mut session = Session::<B>::default();
     for (number, line) in (1..).zip(BufReader::new(File::open(path)?).lines()) {
         match log::parse(&line?) {
             Ok(None) => {}

@@ -63,7 +63,7 @@ fn any_offer(rng: &mut Rng, world: &World) -> Vec<u8> {
 }
 
 /// The plant with up to four faults, at one or more levels.
-fn bad_plant(rng: &mut Rng, world: &World) -> Vec<u8> {
+pub fn bad_plant(rng: &mut Rng, world: &World) -> Vec<u8> {
     let mut actions = world.actions.clone();
     let faults = [rng.below(3), rng.below(2), rng.below(2)];
     for _ in 0..faults[0] {

@@ -8,6 +8,7 @@ const TIMES: [u32; 6] = [1, 2, 10, 999_999, 1_000_000, 5_000];
 
 /// A good plant grown along a walk: each action's needs hold in the state that the actions
 /// before it lead to, so every stretch of the walk is a chain that runs.
+#[derive(Clone)]
 pub struct World {
     pub actions: Vec<ActionDraft>,
     /// The facts in use.

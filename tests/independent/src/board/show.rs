@@ -1,0 +1,45 @@
+//! What a call log shows of a board: its gap table, and all else.
+
+use super::Board;
+use std::fmt;
+
+/// The answer to `table`.
+pub struct Table<'a>(pub &'a Board);
+
+/// The answer to `state`.
+pub struct State<'a>(pub &'a Board);
+
+impl fmt::Display for Table<'_> {
+    fn fmt(&self, f: &mut fmt::Formatter) -> fmt::Result {
+        let live = self.0.live();
+        write!(f, "table {live}")?;
+        for from in 0..live {
+            write!(f, "\nt")?;
+            for to in 0..live {
+                write!(f, " {}", self.0.gap(from, to))?;
+            }
+        }
+        Ok(())
+    }
+}
+
+impl fmt::Display for State<'_> {
+    fn fmt(&self, f: &mut fmt::Formatter) -> fmt::Result {
+        let jobs = self.0.jobs_in_use();
+        write!(f, "state {} {}", self.0.clock, jobs.len())?;
+        for job in jobs {
+            write!(f, "\nj {} {} {}", job.points, job.batch, job.sent)?;
+        }
+        for (resource, line) in self.0.lines.iter().enumerate() {
+            let uses = line.in_use();
+            if uses.is_empty() {
+                continue;
+            }
+            write!(f, "\nl {resource} {}", uses.len())?;
+            for one in uses {
+                write!(f, " {} {} {}", one.point, one.offset, one.length)?;
+            }
+        }
+        Ok(())
+    }
+}

@@ -1,0 +1,97 @@
+//! How much a log must show, by what it is about.
+
+use super::sights::Sight;
+use crate::kind::Kind;
+
+/// What a log must show of one call.
+pub struct Floor {
+    pub call: &'static str,
+    /// Numbers that must be seen often.
+    pub numbers: &'static [u32],
+    /// Numbers with the last value they can have; each must be seen with 0 and with the last.
+    pub ends: &'static [(u32, u32)],
+}
+
+const READ: [Floor; 2] = [
+    Floor {
+        call: "check",
+        numbers: &[0, 1, 2, 3, 4],
+        ends: &[(3, 127), (4, 127)],
+    },
+    Floor {
+        call: "fact",
+        numbers: &[0, 1, 2, 3, 4, 7, 8, 9, 10, 11, 12, 13],
+        ends: &[(8, 7), (11, 7), (12, 7), (13, 31)],
+    },
+];
+
+/// Retire comes last, to be left out of a log without it.
+const BOARD: [Floor; 5] = [
+    Floor {
+        call: "fresh",
+        numbers: &[0, 5],
+        ends: &[],
+    },
+    Floor {
+        call: "plan",
+        numbers: &[0, 1, 2, 3, 4, 6, 7, 8, 9, 10, 11, 12, 13, 14, 15, 16, 17],
+        ends: &[(8, 7), (11, 7), (12, 7), (13, 31), (15, 31), (16, 31)],
+    },
+    Floor {
+        call: "send",
+        numbers: &[0, 6, 18],
+        ends: &[],
+    },
+    Floor {
+        call: "clock",
+        numbers: &[0, 6, 19, 20],
+        ends: &[],
+    },
+    Floor {
+        call: "retire",
+        numbers: &[0, 6, 21],
+        ends: &[],
+    },
+];
+
+const READ_SIGHTS: [(Sight, usize); 5] = [
+    (Sight::EmptyPart, 50),
+    (Sight::FilledPart, 50),
+    (Sight::ForwardPassed, 3_000),
+    (Sight::ForwardFailed, 3_000),
+    (Sight::ForwardGoalClash, 300),
+];
+
+const BOARD_SIGHTS: [(Sight, usize); 7] = [
+    (Sight::Table, 1_000),
+    (Sight::State, 1_000),
+    (Sight::AllPoints, 50),
+    (Sight::AllJobs, 50),
+    (Sight::FullLine, 50),
+    (Sight::SoundByHand, 100),
+    (Sight::UnsoundByHand, 100),
+];
+
+/// How often each number of a floor must be seen.
+pub fn least_seen(kind: Kind) -> usize {
+    match kind {
+        Kind::Read => 50,
+        Kind::Board | Kind::Retire => 100,
+    }
+}
+
+pub fn floors(kind: Kind) -> &'static [Floor] {
+    match kind {
+        Kind::Read => &READ,
+        Kind::Board => &BOARD[..BOARD.len() - 1],
+        Kind::Retire => &BOARD,
+    }
+}
+
+/// How often each of these must be seen.
+pub fn sights(kind: Kind) -> &'static [(Sight, usize)] {
+    match kind {
+        Kind::Read => &READ_SIGHTS,
+        Kind::Board | Kind::Retire => &BOARD_SIGHTS,
+    }
+}

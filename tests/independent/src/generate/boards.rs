@@ -1,0 +1,96 @@
+//! Lists of board calls: first lists that go through every limit, then random ones. A list knows
+//! the board it has reached, so that it can ask for what is just possible and what just isn't.
+
+mod fields;
+mod hand;
+mod limits;
+mod near;
+mod orders;
+mod press;
+mod proving;
+mod random;
+mod script;
+
+use super::rng::Rng;
+use super::{offers, List};
+use crate::kind::Kind;
+use crate::log::Item;
+use script::Script;
+use std::io::{self, Write};
+
+type Scenario = fn(&mut Rng, &mut Script);
+
+/// The lists that come first in every log.
+const SYSTEMATIC: [(&str, Scenario); 15] = [
+    ("proving", proving::proving),
+    ("freshes", limits::freshes),
+    ("rooms", limits::rooms),
+    ("queues", limits::queues),
+    ("horizons", limits::horizons),
+    ("extremes", limits::extremes),
+    ("clocks", limits::clocks),
+    ("orders", orders::orders),
+    ("formats", |rng, script| {
+        replan(rng, script, offers::formats)
+    }),
+    ("clashes", |rng, script| {
+        replan(rng, script, offers::clashes)
+    }),
+    ("chains", |rng, script| replan(rng, script, offers::chains)),
+    ("fields", hand::fields),
+    ("invented", hand::invented),
+    ("near", near::near),
+    ("cells", near::cells),
+];
+
+/// The random lists that take turns after them.
+const RANDOM: [(&str, Scenario); 8] = [
+    ("random", random::random),
+    ("shift", random::shift),
+    ("random", random::random),
+    ("random", random::random),
+    ("by-hand", hand::by_hand),
+    ("random", random::random),
+    ("shift", random::shift),
+    ("random", random::random),
+];
+
+/// Plans the offers that a list of fact checks has, on a fresh board once one was accepted.
+fn replan(rng: &mut Rng, script: &mut Script, facts: fn(&mut Rng, &mut List)) {
+    let mut list = List::default();
+    facts(rng, &mut list);
+    script.fresh(10_000_000, 0);
+    for item in list.0 {
+        match item {
+            Item::Plant(file) => script.plant(file),
+            Item::Fact(offer) => plan_or_begin_anew(script, offer),
+            _ => {}
+        }
+    }
+}
+
+fn plan_or_begin_anew(script: &mut Script, offer: Vec<u8>) {
+    if script.plan_bytes(offer) == 0 {
+        script.fresh(10_000_000, 0);
+    }
+}
+
+/// Writes whole lists until there are so many calls.
+pub fn generate(rng: &mut Rng, calls: u64, kind: Kind, out: &mut impl Write) -> io::Result<()> {
+    let mut written = 0;
+    let scenarios = SYSTEMATIC.into_iter().chain(RANDOM.into_iter().cycle());
+    for (number, (name, scenario)) in scenarios.enumerate() {
+        if written >= calls {
+            break;
+        }
+        let mut script = Script::new(kind == Kind::Retire);
+        scenario(rng, &mut script);
+        script.show();
+        writeln!(out, "\n{}", Item::List(format!("{name}-{number}")))?;
+        for item in script.items() {
+            written += u64::from(item.is_call());
+            writeln!(out, "{item}")?;
+        }
+    }
+    Ok(())
+}

@@ -1,0 +1,112 @@
+//! Boards made by hand that are only just sound, or only just not.
+
+use super::hand::try_calls;
+use super::random::begin;
+use super::script::Script;
+use crate::board::{Board, Use, MOST_HORIZON, MOST_LEAD, MOST_USES, RESOURCES};
+use crate::generate::invent::{invent, invent_with, Flaw};
+use crate::generate::rng::Rng;
+use crate::plant::MOST_TIME;
+
+/// Boards with one number at or just past its limit, or one flaw, and all else sound.
+pub fn near(rng: &mut Rng, script: &mut Script) {
+    let press = begin(rng, script);
+    let flaws = [
+        Flaw::JobPoints(0),
+        Flaw::JobPoints(1),
+        Flaw::JobPoints(10),
+        Flaw::Unsettled,
+        Flaw::BelowZero,
+        Flaw::PastHorizon,
+    ];
+    for _ in 0..6 {
+        for flaw in flaws {
+            let board = invent_with(rng, press.unit, flaw);
+            try_calls(rng, script, &press, &board);
+        }
+        let mut base = invent(rng, press.unit);
+        while base.job_count == 0 {
+            base = invent(rng, press.unit);
+        }
+        for number in 0..NEAR_HEADERS {
+            let mut board = base.clone();
+            near_header(&mut board, number);
+            try_calls(rng, script, &press, &board);
+        }
+        for number in 0..NEAR_USES {
+            let mut board = base.clone();
+            near_use(rng, &mut board, number);
+            try_calls(rng, script, &press, &board);
+        }
+    }
+}
+
+const NEAR_HEADERS: usize = 9;
+
+/// A number of the header or of a job at its limit or just past it.
+fn near_header(board: &mut Board, number: usize) {
+    let last = board.jobs_in_use().len() - 1;
+    match number {
+        0 => board.lead = MOST_LEAD,
+        1 => board.lead = MOST_LEAD + 1,
+        2 => board.clock = board.horizon,
+        3 => board.clock = board.horizon + 1,
+        4 => board.horizon = MOST_HORIZON,
+        5 => board.horizon = MOST_HORIZON + 1,
+        6 => board.jobs[last].sent = 2,
+        7 => board.jobs[last].batch = u32::MAX,
+        _ => board.jobs[0].sent = 0,
+    }
+}
+
+const NEAR_USES: usize = 11;
+
+/// A line, full but for the second case, with a use that is at or just past a limit.
+fn near_use(rng: &mut Rng, board: &mut Board, number: usize) {
+    let live = board.live() as u32;
+    let line = &mut board.lines[rng.below(RESOURCES)];
+    line.uses.fill(Use {
+        point: 1,
+        offset: 0,
+        length: 1,
+    });
+    line.count = MOST_USES as u32;
+    let anywhere = rng.below(MOST_USES);
+    let one = &mut line.uses[rng.pick(&[0, anywhere, MOST_USES - 1])];
+    match number {
+        0 => line.count += 1,
+        1 => line.count -= 1,
+        2 => one.point = 0,
+        3 => one.point = live - 1,
+        4 => one.point = live,
+        5 => one.offset = MOST_TIME,
+        6 => one.offset = MOST_TIME + 1,
+        7 => one.length = 0,
+        8 => one.length = MOST_TIME,
+        9 => one.length = MOST_TIME + 1,
+        _ => {}
+    }
+}
+
+/// Every cell of small tables one up and one down.
+pub fn cells(rng: &mut Rng, script: &mut Script) {
+    let press = begin(rng, script);
+    for live in [1, 3, 5, 7] {
+        let mut base = invent(rng, press.unit);
+        while base.live() != live {
+            base = invent(rng, press.unit);
+        }
+        for from in 0..live {
+            for to in 0..live {
+                for change in [1, u32::MAX] {
+                    let mut board = base.clone();
+                    let cell = &mut board.cells[from][to];
+                    *cell = cell.wrapping_add(change);
+                    script.board(&board);
+                    script.send(u32::MAX);
+                    script.clock(board.clock);
+                }
+            }
+        }
+    }
+}

@@ -1,0 +1,96 @@
+//! A list of board calls in the making, with the board that its calls lead to.
+
+use crate::board::definition::RuleBook;
+use crate::board::{Board, BoardCalls};
+use crate::generate::draft::OfferDraft;
+use crate::log::Item;
+use crate::replay::{Answer, Session};
+
+pub struct Script {
+    items: Vec<Item>,
+    session: Session,
+    /// Whether the list may retire.
+    pub retires: bool,
+}
+
+impl Script {
+    pub fn new(retires: bool) -> Self {
+        Script {
+            items: Vec::new(),
+            session: Session::default(),
+            retires,
+        }
+    }
+
+    pub fn items(&self) -> &[Item] {
+        &self.items
+    }
+
+    /// Adds an item and gives the number of its ruling, if it has one.
+    fn add(&mut self, item: Item) -> u32 {
+        let number = match self.session.answer(&item) {
+            Some(Answer::Ruling(ruling)) => ruling.number(),
+            _ => 0,
+        };
+        self.items.push(item);
+        number
+    }
+
+    pub fn plant(&mut self, file: Vec<u8>) {
+        self.add(Item::Plant(file));
+    }
+
+    pub fn fresh(&mut self, horizon: u32, lead: u32) -> u32 {
+        self.add(Item::Fresh(horizon, lead))
+    }
+
+    pub fn plan(&mut self, offer: &OfferDraft) -> u32 {
+        self.plan_bytes(offer.bytes())
+    }
+
+    pub fn plan_bytes(&mut self, offer: Vec<u8>) -> u32 {
+        self.add(Item::Plan(offer))
+    }
+
+    pub fn send(&mut self, place: u32) -> u32 {
+        self.add(Item::Send(place))
+    }
+
+    pub fn clock(&mut self, to: u32) -> u32 {
+        self.add(Item::Clock(to))
+    }
+
+    /// Retires where the list may.
+    pub fn retire(&mut self) {
+        if self.retires {
+            self.add(Item::Retire);
+        }
+    }
+
+    pub fn board(&mut self, board: &Board) {
+        self.add(Item::Board(board.clone()));
+    }
+
+    /// Shows the board. A call log doesn't say what is shown of one that isn't sound, so a list
+    /// on such a board gets a sound one first.
+    pub fn show(&mut self) {
+        if self.book().is_none() {
+            self.fresh(1_000, 5);
+        }
+        self.items.extend([Item::Table, Item::State]);
+    }
+
+    /// The rule book of the board reached, where that is sound.
+    pub fn book(&self) -> Option<&RuleBook> {
+        self.session.board().book().ok()
+    }
+
+    /// The board reached.
+    pub fn reached(&self) -> Board {
+        self.session.board().board()
+    }
+
+    pub fn current_plant(&self) -> Vec<u8> {
+        self.session.plant().to_vec()
+    }
+}
