@@ -3,11 +3,14 @@ ghost use Rattle.calls.specs.Texts.{lineText, partText};
 ghost use Rattle.text.specs.Written.{Written};
 use crate::faults::Fault;
 use crate::faults::put_fault;
+use boardtext::put_state;
+use boardtext::put_table;
 use plant::allocations;
 use rulings::Ruling;
 use rulings::is_valued;
 use rulings::number;
 use rulings::value;
+use sound::Board;
 use text::put;
 use text::put_hex;
 use text::put_number;
@@ -21,6 +24,10 @@ pub enum Answer {
     Ruling(Ruling),
     // `= 0 HEX`: the part of the plant file with this action's allocations.
     Part(u32),
+    // `table N` and the gaps.
+    Table,
+    // `state CLOCK JOBS`, the jobs and the lines.
+    State,
     // `! LINE WHY`.
     Wrong(Fault),
 }
@@ -34,7 +41,7 @@ pub fn ends(answer: Answer) -> bool {
     }
 }
 
-// Puts the answer to the line `line`, the log's `row`th, on this plant file.
+// Puts the answer to the line `line`, the log's `row`th, on this plant file and this board.
 pub fn put_answer(
     out: &mut [u8],
     at: usize,
@@ -42,12 +49,15 @@ pub fn put_answer(
     row: u64,
     line: &[u8],
     plant: &[u8],
+    board: Board,
 ) -> usize {
     match answer {
         Answer::Nothing => at,
         Answer::Line => put_line(out, at, line),
         Answer::Ruling(ruling) => put_ruling(out, at, ruling),
         Answer::Part(action) => put_part(out, at, allocations(plant, action)),
+        Answer::Table => put_table(out, at, board),
+        Answer::State => put_state(out, at, board),
         Answer::Wrong(fault) => put_fault(out, at, row, fault),
     }
 }

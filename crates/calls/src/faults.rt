@@ -12,6 +12,7 @@ pub enum Fault {
     OddHex,
     BadHex,
     ManyBytes,
+    BoardBytes,
     LongLine,
 }
 
@@ -30,7 +31,7 @@ fn put_why(out: &mut [u8], at: usize, fault: Fault) -> usize {
         Fault::UnknownWord => put(
             out,
             at,
-            b"the line begins with no known word: use list, plant, check, part or fact",
+            b"the line begins with no known word: use list, plant, check, part, fact, fresh, board, plan, send, clock, table or state",
         ),
         Fault::MissingWord => put(out, at, b"a word is missing: see what the call takes"),
         Fault::ExtraWord => put(
@@ -56,6 +57,11 @@ fn put_why(out: &mut [u8], at: usize, fault: Fault) -> usize {
             b"the hex has a letter that is no hex digit: use 0-9 and a-f, two for each byte",
         ),
         Fault::ManyBytes => put(out, at, b"the bytes are too many: use at most 16384"),
+        Fault::BoardBytes => put(
+            out,
+            at,
+            b"the bytes are not as many as a board has: use 23316, four for each of its 5829 words",
+        ),
         Fault::LongLine => put(out, at, b"the line is too long: use at most 65535 bytes"),
     }
 }

@@ -1,15 +1,19 @@
 // The calls of a log, one line each: what a line asks for, and the text of its answer.
 //
-// A line is ruled on first (`rule_line`), which may change the plant and writes nothing; then its answer is
-// written (`put_answer`). A new call is a word of `vocabulary`, an arm of `change` or `answer` here, and an arm of
-// `put_answer` where it answers in a new form.
+// A line is ruled on first (`rule_line`), which may change the plant and the board and writes nothing; then its
+// answer is written (`put_answer`). A new call is a word of `vocabulary`, an arm of `rule_on_board` where it changes
+// the board and of `answer` where it does not, and an arm of `put_answer` where it answers in a new form.
 mod answers;
+mod boards; // the calls that change the board
 mod faults;
 mod vocabulary;
 
 pub use answers::Answer;
 pub use answers::ends;
 pub use answers::put_answer;
+use boards::Turn;
+pub use boards::no_board;
+use boards::rule_on_board;
 pub use faults::Fault;
 pub use faults::put_fault;
 ghost use mathlib.Core.Path.{_≡_};
@@ -17,6 +21,7 @@ ghost use Prim.Native.Nat.{_≤_};
 ghost use lib.ListN.{length};
 use offer::rule_facts;
 use plant::check_plant;
+use sound::Board;
 use text::Decoded;
 use text::Number;
 use text::count;
@@ -31,38 +36,43 @@ use vocabulary::word_of;
 // The most bytes that a plant file or an offer has in a log.
 pub const MOST_BYTES: usize = 16384;
 
-// What a line leaves: how many bytes the plant file has from now on, and the answer.
-pub struct Ruled {
+// What a line leaves: how many bytes the plant file has from now on, the board, and the answer.
+pub struct Outcome {
     pub plant: usize,
+    pub board: Board,
     pub answer: Answer,
 }
 
 // Rules on a line. The plant file is the first `have` bytes of `plant`, into which a new one is put.
-pub fn rule_line(line: &[u8], plant: &mut [u8], have: usize) -> Ruled
+pub fn rule_line(line: &[u8], plant: &mut [u8], have: usize, board: Board) -> Outcome
     ensures { λ r. ⌜ r .plant ≤ length (now (plant .exit)) ⌝ }
 {
     let have = least(have, plant.len());
     if is_passed_over(line) {
-        return result(have, Answer::Nothing);
+        return result(have, board, Answer::Nothing);
     }
     let end = find(line, b' ');
     let word = word_of(&line[0..end]);
     let blanks = count(line, b' ');
     let wanted = arguments(word, blanks);
     if blanks < wanted {
-        return result(have, Answer::Wrong(Fault::MissingWord));
+        return result(have, board, Answer::Wrong(Fault::MissingWord));
     }
     if wanted < blanks {
-        return result(have, Answer::Wrong(Fault::ExtraWord));
+        return result(have, board, Answer::Wrong(Fault::ExtraWord));
     }
     let from = least(end + 1, line.len());
-    change(word, &line[from..], plant, have)
+    change(word, &line[from..], plant, have, board)
 }
 
-fn result(plant: usize, answer: Answer) -> Ruled
+fn result(plant: usize, board: Board, answer: Answer) -> Outcome
     ensures { λ r. ⌜ r .plant ≡ plant ⌝ }
 {
-    Ruled { plant, answer }
+    Outcome {
+        plant,
+        board,
+        answer,
+    }
 }
 
 // An empty line or a comment.
@@ -73,28 +83,39 @@ fn is_passed_over(line: &[u8]) -> bool {
     line[0] == b'#'
 }
 
-// The calls that change what the log is replayed on. Every other call only answers.
-fn change(word: Word, argument: &[u8], plant: &mut [u8], have: usize) -> Ruled
+// The lines that change the plant file, and all others.
+fn change(word: Word, argument: &[u8], plant: &mut [u8], have: usize, board: Board) -> Outcome
     requires { ⌜ have ≤ length (now plant) ⌝ }
     ensures { λ r. ⌜ r .plant ≤ length (now (plant .exit)) ⌝ }
 {
     match word {
-        Word::List => result(0, list_answer(argument)),
-        Word::Plant => set_plant(argument, plant),
-        _ => result(have, answer(word, argument, &plant[0..have])),
+        Word::List => result(0, no_board(), list_answer(argument)),
+        Word::Plant => set_plant(argument, plant, board),
+        _ => keep_plant(have, rule_on_board(word, argument, &plant[0..have], board)),
     }
 }
 
-fn answer(word: Word, argument: &[u8], plant: &[u8]) -> Answer {
+fn keep_plant(have: usize, turn: Turn) -> Outcome
+    ensures { λ r. ⌜ r .plant ≡ have ⌝ }
+{
+    let board = turn.board;
+    let answer = turn.answer;
+    result(have, board, answer)
+}
+
+// The calls that only answer.
+pub fn answer(word: Word, argument: &[u8], plant: &[u8]) -> Answer {
     match word {
         Word::Check => Answer::Ruling(check_plant(plant)),
         Word::Part => part_answer(argument),
         Word::Fact => fact_answer(argument, plant),
+        Word::Table => Answer::Table,
+        Word::State => Answer::State,
         _ => Answer::Wrong(Fault::UnknownWord),
     }
 }
 
-// A list begins with no plant file.
+// A list begins with no plant file and no board.
 fn list_answer(name: &[u8]) -> Answer {
     if name.len() == 0 {
         return Answer::Wrong(Fault::NoName);
@@ -103,15 +124,15 @@ fn list_answer(name: &[u8]) -> Answer {
 }
 
 // Puts the new plant file in the place of the old one.
-fn set_plant(hex: &[u8], plant: &mut [u8]) -> Ruled
+fn set_plant(hex: &[u8], plant: &mut [u8], board: Board) -> Outcome
     ensures { λ r. ⌜ r .plant ≤ length (now (plant .exit)) ⌝ }
 {
     let room = least(MOST_BYTES, plant.len());
     let bytes = decode_hex(hex, &mut plant[0..room]);
     let Decoded::Bytes(n) = bytes else {
-        return result(0, Answer::Wrong(hex_fault(bytes)));
+        return result(0, board, Answer::Wrong(hex_fault(bytes)));
     };
-    result(n, Answer::Nothing)
+    result(n, board, Answer::Nothing)
 }
 
 fn part_answer(number: &[u8]) -> Answer {
@@ -132,7 +153,7 @@ fn fact_answer(hex: &[u8], plant: &[u8]) -> Answer {
 }
 
 // The fault of a word that is no hex. Bytes are none, and nobody asks for theirs.
-fn hex_fault(bytes: Decoded) -> Fault {
+pub fn hex_fault(bytes: Decoded) -> Fault {
     match bytes {
         Decoded::Bytes(_) => Fault::ManyBytes,
         Decoded::Empty => Fault::NoBytes,

@@ -8,6 +8,13 @@ pub enum Word {
     Check,
     Part,
     Fact,
+    Fresh,
+    Board,
+    Plan,
+    Send,
+    Clock,
+    Table,
+    State,
     Unknown,
 }
 
@@ -29,6 +36,27 @@ pub fn word_of(s: &[u8]) -> Word
     if same(s, b"fact") {
         return Word::Fact;
     }
+    if same(s, b"fresh") {
+        return Word::Fresh;
+    }
+    if same(s, b"board") {
+        return Word::Board;
+    }
+    if same(s, b"plan") {
+        return Word::Plan;
+    }
+    if same(s, b"send") {
+        return Word::Send;
+    }
+    if same(s, b"clock") {
+        return Word::Clock;
+    }
+    if same(s, b"table") {
+        return Word::Table;
+    }
+    if same(s, b"state") {
+        return Word::State;
+    }
     Word::Unknown
 }
 
@@ -37,6 +65,9 @@ pub fn word_of(s: &[u8]) -> Word
 pub fn arguments(word: Word, blanks: usize) -> usize {
     match word {
         Word::Check => 0,
+        Word::Table => 0,
+        Word::State => 0,
+        Word::Fresh => 2,
         Word::Unknown => blanks,
         _ => 1,
     }

@@ -1,4 +1,5 @@
 -- The clock call mirrors the board's: its rules name points that are there.
+--   starts-within    they do;  clock-mirrors: the call
 use mathlib.Core.Bool.{Bool, true, false, cond}
 use mathlib.Core.List.{List, [], _∷_, _++_}
 use Prim.Native.Nat.{ℕ, _+_, _≤_, _<_}
@@ -13,7 +14,7 @@ use Rattle.demands.specs.Beside.{JobsIn, Holds, Mirrors}
 use Rattle.demands.proofs.Jobs.{still-tight, still-jobs}
 use Rattle.demands.proofs.Tries.{live-positive, Tries, try-mirrors}
 
-starts-within : (n p : ℕ) (js : List Job) (x : ℕ) → JobsIn js → 0 < n → x + Plain.total js ≤ n → Within n (Plain.starts p x js)
+pub starts-within : (n p : ℕ) (js : List Job) (x : ℕ) → JobsIn js → 0 < n → x + Plain.total js ≤ n → Within n (Plain.starts p x js)
 unfolding JobsIn Within Plain.starts Plain.total Plain.notBefore
 starts-within n p [] x j z le = tt
 starts-within n p (j ∷ js) x jobs z le = go (j .sent) (starts-within n p js (x + j .points) (jobs .1) z (omega arith))

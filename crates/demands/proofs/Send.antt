@@ -4,6 +4,7 @@
 --   least-all, freeze-is   the earliest times are the least values, and any least values set the same rules
 --   frozen-still           what is set stands still
 --   total-marked, live-sent   send adds no point
+--   send-within            the rules name points that are there
 --   send-added, send-some  what adding the rules says; it never fails
 use mathlib.Core.Path.{_≡_, refl, ap}
 use mathlib.Core.Bool.{Bool, true, false, cond}
@@ -173,10 +174,11 @@ module _ {s : Plain.State} {c : Table} {rs : List (RuleOn Point)} (h : Holds s c
   unfolding Plain.liveCount
   points-below = unsent-below (Plain.liveCount s) (suc place) (s .jobs) 1 (omega arith)
 
+  pub send-within : Within (Plain.liveCount s) sets
+  send-within = freeze-within (Plain.liveCount s) (earliest c) (sendPoints s place) (live-positive s) points-below
+
   pub send-added : Added (Plain.liveCount s) c sets (addAll sets c)
-  send-added =
-      addAll-added (Plain.liveCount s) c sets (h .closed)
-      (freeze-within (Plain.liveCount s) (earliest c) (sendPoints s place) (live-positive s) points-below)
+  send-added = addAll-added (Plain.liveCount s) c sets (h .closed) send-within
 
   -- the earliest times keep the rules
   pub send-some : (o : Option Table) → Added (Plain.liveCount s) c sets o → (d : Table) × (o ≡ some d)

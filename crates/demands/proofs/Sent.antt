@@ -24,12 +24,12 @@ unfolding NoneSent
 none-append [] j u a = (u, tt)
 none-append (i ∷ js) j u a = (a .0, none-append js j u (a .1))
 
-first-append : (js : List Job) (j : Job) → T (not (j .sent)) → SentFirst js → SentFirst (js ++ (j ∷ []))
+pub first-append : (js : List Job) (j : Job) → T (not (j .sent)) → SentFirst js → SentFirst (js ++ (j ∷ []))
 unfolding SentFirst NoneSent
 first-append [] j u a = ((λ t. tt), tt)
 first-append (i ∷ js) j u a = ((λ t. none-append js j u (a .0 t)), first-append js j u (a .1))
 
-first-marked : (n : ℕ) (js : List Job) → SentFirst js → SentFirst (Plain.marked n js)
+pub first-marked : (n : ℕ) (js : List Job) → SentFirst js → SentFirst (Plain.marked n js)
 unfolding SentFirst Plain.marked
 first-marked zero js a = a
 first-marked (suc n) [] a = tt

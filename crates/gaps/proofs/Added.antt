@@ -1,29 +1,34 @@
 -- A rule added to a list of cells is the rule added to its table.
 --   Turn             one turn of the loop over rows: what relaxing a row requires and gives;  turn shows it
+--   relaxed-same     a row that no way across the rule can shorten
 --   added-length     the list keeps its length
 --   added-agree      the first n points of the list hold stn's table with the rule added;  added-rest: else it is as it was
 --   agrees-whole     a rule that agrees with a closed table cuts no way off
 --   added-closed     and the table with it is closed again
+--   added-known      a rule that every timetable of a closed table keeps already changes no cell
 use mathlib.Core.List.{List}
 use mathlib.Core.Logic.{_⊎_}
-use mathlib.Core.Path.{_≡_, sym, _∙_, ap}
+use mathlib.Core.Path.{_≡_, refl, sym, _∙_, ap}
 use Prim.Native.Nat.{ℕ, _+_, _*_, _%_, _≤_, _<_}
 use native.Mathlib.Omega.{arith}
 use lib.ListN.{length, getD}
 use Rattle.plain.specs.declared.Rule.{Rule}
-use Rattle.lists.proofs.Rewritten.{build-at, rewritten-length, rewritten-in, rewritten-below, rewritten-from, ahead}
+use Rattle.lists.proofs.Rewritten.{build-at, rewritten-length, rewritten-in, rewritten-below, rewritten-from, rewritten-is, ahead}
 use Rattle.lists.specs.Loops.{rewritten}
 use Rattle.stn.proofs.Add.{add-closed}
 use Rattle.stn.proofs.Agree.{agree-closed}
 use Rattle.stn.specs.Table.{bias, Table, Closed, Agrees, Agree, add}
-use Rattle.gaps.specs.Cells.{cell, tableOf, rowOf, addedCell, relaxed, added, Usable, Bounded, Whole}
-use Rattle.gaps.proofs.Overlaid.{row-next, overlaid-length, overlaid-agree, overlaid-rest}
+use Rattle.gaps.specs.Cells.{cell, tableOf, rowOf, addedCell, relaxed, added, Usable, Whole}
+use Rattle.gaps.proofs.Overlaid.{row-next, overlaid-length, overlaid-agree, overlaid-rest, overlaid-self, overlaid-same}
 
-pub record Turn (l : List ℕ) (n : ℕ) (r : Rule) (late : ℕ) (row m : List ℕ) (a : ℕ) : Type 0 where
+pub record Turn (l : List ℕ) (n : ℕ) (r : Rule) (early late : ℕ) (row m : List ℕ) (a : ℕ) : Type 0 where
   -- what relaxing row a requires: sums stay small, and no way is cut off
   pub via-small : cell m a late ≤ bias + bias
   pub row-small : (b : ℕ) → b < n → getD row b 0 ≤ bias + bias
   pub row-whole : (b : ℕ) → b < n → bias + r .more ≤ cell m a late + r .slack + getD row b 0
+  -- and no cell of it exceeds the way by the early point
+  pub direct-small : cell m a early ≤ bias + bias
+  pub row-behind : (b : ℕ) → b < n → cell m a b + bias ≤ cell m a early + getD row b 0
   -- what it gives: one more row of the table with the rule added
   pub next :
       (x : List ℕ) → x ≡ rewritten (relaxed m row (cell m a late + r .slack) (bias + r .more)) m (a * 65) (a * 65 + n)
@@ -31,7 +36,7 @@ pub record Turn (l : List ℕ) (n : ℕ) (r : Rule) (late : ℕ) (row m : List �
 
 -- The rows before a are relaxed, so that row a of m is still that of l
 module _
-    (l : List ℕ) (n : ℕ) (r : Rule) (size : length l ≡ 4225) (few : n ≤ 65) (u : Usable n r) (small : Bounded n (tableOf l))
+    (l : List ℕ) (n : ℕ) (r : Rule) (size : length l ≡ 4225) (few : n ≤ 65) (u : Usable n r) (cl : Closed n (tableOf l))
     (whole : Whole n r (tableOf l)) (early late : ℕ) (is-early : early ≡ r .early) (is-late : late ≡ r .late) (row : List ℕ)
     (copy : row ≡ rowOf l early) (m : List ℕ) (a : ℕ) (ha : a < n) (is : m ≡ rewritten (addedCell l n r) l 0 (a * 65)) where
   still : (b : ℕ) → cell m a b ≡ cell l a b
@@ -64,12 +69,17 @@ module _
           (rewritten-in f m (a * 65) (a * 65 + n) (a * 65 + b) (omega arith) (omega arith) (omega (arith, long))
           ∙ rw (column, onward b hb, still b, via))
 
-  pub turn : Turn l n r late row m a
+  direct : cell m a early ≡ cell l a (r .early)
+  direct = still early ∙ ap (λ (j : ℕ). cell l a j) is-early
+
+  pub turn : Turn l n r early late row m a
   turn =
       record {
-        via-small = omega (arith, via, small a (r .late) ha (u .late-live));
-        row-small = λ b hb. omega (arith, onward b hb, small (r .early) b (u .early-live) hb);
+        via-small = omega (arith, via, cl .bounded a (r .late) ha (u .late-live));
+        row-small = λ b hb. omega (arith, onward b hb, cl .bounded (r .early) b (u .early-live) hb);
         row-whole = λ b hb. omega (arith, via, onward b hb, whole a b ha hb);
+        direct-small = omega (arith, direct, cl .bounded a (r .early) ha (u .early-live));
+        row-behind = λ b hb. omega (arith, direct, onward b hb, still b, cl .triangle a (r .early) b ha (u .early-live) hb);
         next = relaxed-next;
       }
 
@@ -90,6 +100,29 @@ module _ (l : List ℕ) (n : ℕ) (r : Rule) (size : length l ≡ 4225) (few : n
   added-closed cl x y ok =
       agree-closed n (add r (tableOf l)) (tableOf (added l n r)) (λ i j hi hj. sym (added-agree i j hi hj)) (omega arith)
       (add-closed n (tableOf l) r cl x y ok)
+
+  -- a way across the rule is no shorter than one that goes from late to early
+  pub added-known :
+      Closed n (tableOf l) → r .early < n → r .late < n → cell l (r .late) (r .early) + r .more ≤ bias + r .slack → added l n r ≡ l
+  unfolding added add
+  added-known cl x y known =
+      overlaid-same n (add r (tableOf l)) (tableOf l) l size few
+      (λ a b ha hb. omega (arith, cl .triangle a (r .late) (r .early) ha y x, cl .triangle a (r .early) b ha x hb))
+      ∙ sym (overlaid-self n l size few)
+
+-- a row that no way across the rule can shorten is as it was
+pub relaxed-same :
+    (l row : List ℕ) (a n early via cut : ℕ) → length l ≡ 4225 → n ≤ 65 → a < n → ((b : ℕ) → b < n → cell l a b + bias ≤ cell l a early + getD row b 0)
+    → cell l a early + cut ≤ via + bias → l ≡ rewritten (relaxed l row via cut) l (a * 65) (a * 65 + n)
+relaxed-same l row a n early via cut size few ha behind known =
+    rewritten-is (relaxed l row via cut) l l (a * 65) (a * 65 + n) refl (λ k lo hi h. one k lo hi) (λ k h. refl) (λ k h. refl)
+  where
+    one : (k : ℕ) → a * 65 ≤ k → k < a * 65 + n → getD l k 0 ≡ relaxed l row via cut k
+    one k lo hi =
+        let b : ℕ = k % 65 in
+        let place : a * 65 + b ≡ k = omega arith in
+        let here : cell l a b ≡ getD l k 0 = ap (λ (z : ℕ). getD l z 0) place in
+        omega (arith, behind b (omega arith), here)
 
 -- from early to late by b and a is at least the gap of the two, which the rule agrees with, and from b to a is no more than the bias twice
 pub agrees-whole : (n : ℕ) (c : Table) (r : Rule) → Closed n c → r .early < n → r .late < n → Agrees r c → Whole n r c

@@ -4,7 +4,7 @@
 --   inRange-to                  each cell is at most its limit;  inRange-bounded: so sums of live cells are small
 --   gapTable-to, gapTable-of    the test is true exactly where GapTable holds
 --   gapTable-closed             a good table is closed
---   added-gapTable              a rule that agrees leaves a good table;  grown-gapTable: and so do new points
+--   added-gapTable              a rule that agrees leaves a good table;  grown-gapTable: and so do new points;  grown-closed: of closed tables alone
 use mathlib.Core.Bool.{true, _&&_}
 use mathlib.Core.List.{List}
 use mathlib.Core.Logic.{_⊎_, inl, inr}
@@ -143,12 +143,17 @@ added-gapTable l n H r size few g x y ok =
       roof = λ i hi. omega (arith, added-agree l n r size few 0 i (omega arith) hi, g .roof i hi);
     }
 
+pub grown-closed :
+    (l : List ℕ) (n m H : ℕ) → length l ≡ 4225 → 0 < n → n + m ≤ 65 → H ≤ bias → Closed n (tableOf l) → Closed (n + m) (tableOf (grown l n m H))
+grown-closed l n m H size z few small cl =
+    agree-closed (n + m) _ (tableOf (grown l n m H)) (λ i j hi hj. sym (grown-agree l n m H size few i j hi hj)) (omega arith)
+    (growAll-closed H n m (n + m) (tableOf l) refl cl z small)
+
 pub grown-gapTable :
     (l : List ℕ) (n m H : ℕ) → length l ≡ 4225 → 0 < n → n + m ≤ 65 → H ≤ bias → GapTable l n H → GapTable (grown l n m H) (n + m) H
 grown-gapTable l n m H size z few small g =
     let same = grown-agree l n m H size few in
-    let closed = growAll-closed H n m (n + m) (tableOf l) refl (gapTable-closed g) z small in
-    let cl = agree-closed (n + m) _ (tableOf (grown l n m H)) (λ i j hi hj. sym (same i j hi hj)) (omega arith) closed in
+    let cl = grown-closed l n m H size z few small (gapTable-closed g) in
     record {
       bounded = cl .bounded;
       rest = λ i j hi hj past. grown-rest l n m H size few i j hj past ∙ g .rest i j hi hj (before i j past);

@@ -1,3 +1,4 @@
 pub mod Rewritten
 pub mod Part
 pub mod AllBelow
+pub mod All

@@ -56,7 +56,7 @@ first-at p o = refl
 
 -- ---- the steps held
 
-length-steps : (p o : List ℕ) (k n : ℕ) → length (stepsFrom p o k n) ≡ n
+pub length-steps : (p o : List ℕ) (k n : ℕ) → length (stepsFrom p o k n) ≡ n
 unfolding stepsFrom
 length-steps p o k zero = refl
 length-steps p o k (suc n) = ap suc (length-steps p o (k + 1) n)
@@ -123,7 +123,7 @@ push-is h put l e =
     (ap₂ (λ (x : List Put) (i : ℕ). set x i put) (ap (λ (x : Puts). x .puts) e) (sym n)
     ∙ padded-push 32 noPut (putsOf h) put (omega (arith, n)))
 
-length-step-puts : (p o : List ℕ) (k j n : ℕ) → length (putsOfStep p o k j n) ≡ n
+pub length-step-puts : (p o : List ℕ) (k j n : ℕ) → length (putsOfStep p o k j n) ≡ n
 unfolding putsOfStep
 length-step-puts p o k j zero = refl
 length-step-puts p o k j (suc n) = ap suc (length-step-puts p o k (j + 1) n)

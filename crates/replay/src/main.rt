@@ -5,6 +5,7 @@ mod input;
 ghost use Prim.Native.Nat.{_≤_};
 use calls::Fault;
 use calls::ends;
+use calls::no_board;
 use calls::put_answer;
 use calls::put_fault;
 use calls::rule_line;
@@ -12,16 +13,19 @@ use input::Line;
 use input::take_line;
 use libc::STDIN_FILENO;
 use libc::STDOUT_FILENO;
+use sound::Board;
 use text::least;
 use text::put;
 
 // Output waits until it has more bytes than this, so that a long log takes few writes. The buffer has room for
-// as many again, and no answer is longer.
+// as many again, and no answer is longer: a table of 65 rows with the longest numbers has 46,614 bytes.
 const FULL: usize = 65536;
 
-// Where a replay stands: how many bytes the plant file has, how many bytes of output wait, and whether it goes on.
+// Where a replay stands: how many bytes the plant file has, the board, how many bytes of output wait, and whether
+// it goes on.
 pub struct State {
     pub plant: usize,
+    pub board: Board,
     pub waiting: usize,
     pub goes: bool,
 }
@@ -71,6 +75,7 @@ fn replay_lines(
     let mut to: usize = 0;
     let mut state = State {
         plant: 0,
+        board: no_board(),
         waiting: 0,
         goes: true,
     };
@@ -107,27 +112,40 @@ fn answer(
             let end = least(n, line.len());
             answer_line(row, &line[0..end], plant, out, state)
         }
-        Line::TooLong => ended(put_fault(out, state.waiting, row, Fault::LongLine)),
-        Line::End => ended(state.waiting),
-        Line::Failed => ended(put_unreadable(out, state.waiting, name)),
+        Line::TooLong => ended(state, put_fault(out, state.waiting, row, Fault::LongLine)),
+        Line::End => ended(state, state.waiting),
+        Line::Failed => ended(state, put_unreadable(out, state.waiting, name)),
     }
 }
 
 fn answer_line(row: u64, line: &[u8], plant: &mut [u8], out: &mut [u8], state: State) -> State {
-    let ruled = rule_line(line, plant, state.plant);
-    let have = ruled.plant;
-    let answer = ruled.answer;
-    let waiting = put_answer(out, state.waiting, answer, row, line, &plant[0..have]);
+    let before = state.board;
+    let outcome = rule_line(line, plant, state.plant, before);
+    let have = outcome.plant;
+    let board = outcome.board;
+    let answer = outcome.answer;
+    let waiting = put_answer(
+        out,
+        state.waiting,
+        answer,
+        row,
+        line,
+        &plant[0..have],
+        board,
+    );
     State {
         plant: have,
+        board,
         waiting: drain(out, waiting),
         goes: !ends(answer),
     }
 }
 
-fn ended(waiting: usize) -> State {
+fn ended(state: State, waiting: usize) -> State {
+    let board = state.board;
     State {
         plant: 0,
+        board,
         waiting,
         goes: false,
     }

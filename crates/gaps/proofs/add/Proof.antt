@@ -12,10 +12,10 @@ use Rattle.gaps.proofs.add.Statement.{statement}
 use Rattle.gaps.proofs.add.Tie as tie
 
 abbrev Inv-loop : tie.InvT-loop
-Inv-loop t₀ n r row late cut a₀ t a = (a ≤ n) × (t ≡ rewritten (addedCell t₀ n r) t₀ 0 (a * 65)) × (length t ≡ 4225)
+Inv-loop t₀ n r early row late cut a₀ t a = (a ≤ n) × (t ≡ rewritten (addedCell t₀ n r) t₀ 0 (a * 65)) × (length t ≡ 4225)
 
 abbrev μ-loop : tie.MeasureT-loop
-μ-loop t₀ n r row late cut a₀ t a = n - a
+μ-loop t₀ n r early row late cut a₀ t a = n - a
 
 wide-requires : tie.Need-wide-requires Inv-loop μ-loop
 wide-requires c κs = search needs
@@ -49,11 +49,11 @@ turn-at :
     (c : tie.In-loop Inv-loop μ-loop)
     → (let A = c .before .before .before .before .before .before .before .before .args in
     let L = c .before .loop in
-    Turn (A .t .now) (A .n) (A .r) (c .before .before .before .wide2 .result) (c .before .before .before .before .row-of .result) (L .t) (L .a))
+    Turn (A .t .now) (A .n) (A .r) (c .before .before .before .before .before .before .wide .result) (c .before .before .before .wide2 .result) (c .before .before .before .before .row-of .result) (L .t) (L .a))
 turn-at c =
     let S = c .before .before .before .before .before .before .before .before in
     let A = S .args in
-    let early = c .before .before .before .before .before .wide in
+    let early = c .before .before .before .before .before .before .wide in
     let row = c .before .before .before .before .row-of in
     let late = c .before .before .before .wide2 in
     let L = c .before .loop in
@@ -63,10 +63,13 @@ turn-at c =
 add-via-2 : tie.Need-add-via-2 Inv-loop μ-loop
 add-via-2 c = omega (arith, turn-at (c .before .before) .via-small)
 
-relax-requires : tie.Need-relax-requires Inv-loop μ-loop
-relax-requires c κs =
+relax-row-requires : tie.Need-relax-row-requires Inv-loop μ-loop
+relax-row-requires c κs =
     let T = turn-at (c .before .before .before .before) in
-    ((omega arith, omega arith, omega arith, omega (arith, T .via-small)), (T .row-small, T .row-whole))
+    let few = c .before .before .before .before .before .before .before .before .before .before .before .before .pre .0 .2 .few-more in (
+      (omega arith, omega arith, omega arith, omega (arith, c .before .before .before .before .before .before .before .before .before .before .wide .ensures), omega (arith, T .via-small), omega (arith, few)),
+      (T .direct-small, (T .row-small, (T .row-whole, T .row-behind))),
+    )
 
 add-a : tie.Need-add-a Inv-loop μ-loop
 add-a c = omega arith
@@ -76,7 +79,7 @@ loop-less c = omega arith
 
 loop-again : tie.Need-loop-again Inv-loop μ-loop
 loop-again c =
-    let relaxed = c .before .before .relax in
+    let relaxed = c .before .before .relax-row in
     (omega arith, turn-at (c .before .before .before .before .before .before .before) .next (relaxed .last .0) (relaxed .ensures), omega arith)
 
 same-length : tie.Need-same-length Inv-loop μ-loop
@@ -102,7 +105,7 @@ add-spec =
     mul-via-2
     slice-read-via
     add-via-2
-    relax-requires
+    relax-row-requires
     add-a
     loop-less
     loop-again

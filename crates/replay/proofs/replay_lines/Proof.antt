@@ -12,6 +12,9 @@ Inv-loop fd name chunk₀ line₀ plant₀ out₀ turns₀ from₀ to₀ state�
 abbrev μ-loop : tie.MeasureT-loop
 μ-loop fd name chunk₀ line₀ plant₀ out₀ turns₀ from₀ to₀ state₀ chunk line plant out turns from to state = turns
 
+no-board-requires : tie.Need-no-board-requires Inv-loop μ-loop
+no-board-requires c κs = tt
+
 loop-holds : tie.Need-loop-holds Inv-loop μ-loop
 loop-holds c = (refl, refl, refl, refl, omega arith)
 
@@ -60,6 +63,7 @@ replay-lines-spec =
     (tie.spec
     Inv-loop
     μ-loop
+    no-board-requires
     loop-holds
     sub-turns
     take-line-requires

@@ -1,5 +1,6 @@
-//! Times the board calls on boards of 1, 8 and 16 jobs. Every call tests the whole board for
-//! soundness first; a send that is refused with 18 does nothing else.
+//! Times the board calls on boards of 1, 8 and 16 jobs, the product's beside this implementation's
+//! fast form. Every call tests the whole board for soundness first; a send that is refused with 18
+//! does nothing else.
 
 use independent::board::{fast, BOARD_WORDS};
 use independent::facts::Facts;
@@ -9,26 +10,64 @@ use std::hint::black_box;
 use std::time::Instant;
 
 const ROUNDS: usize = 500;
-/// The boards of one turn, so that no board need be restored while time is taken.
-const BOARDS_A_TURN: usize = 32;
+/// The calls of one turn. This implementation makes each on a board of its own, so that none need
+/// be restored while time is taken; the product makes all of them on a board it has decoded.
+const CALLS_A_TURN: usize = 32;
 
 type Words = [u32; BOARD_WORDS];
 
-/// One implementation of the calls, each giving the ruling's number. The product's C functions
-/// can stand beside this one as a second form.
-struct Form {
-    name: &'static str,
-    plan: fn(&mut [u32], &[u8], &[u8]) -> u32,
-    send: fn(&mut [u32], u32) -> u32,
-    clock: fn(&mut [u32], u32) -> u32,
+extern "C" {
+    fn sf_bench_plan(
+        words: *const u8,
+        words_len: usize,
+        times: u32,
+        plant: *const u8,
+        plant_len: usize,
+        offer: *const u8,
+        offer_len: usize,
+    ) -> u32;
+    fn sf_bench_send(words: *const u8, words_len: usize, times: u32, place: u32) -> u32;
+    fn sf_bench_clock(words: *const u8, words_len: usize, times: u32, to: u32) -> u32;
 }
 
-const FORMS: [Form; 1] = [Form {
-    name: "independent",
-    plan: |words, plant, offer| Ruling::from(fast::plan(words, plant, offer)).number(),
-    send: |words, place| Ruling::from(fast::send(words, place)).number(),
-    clock: |words, to| Ruling::from(fast::clock(words, to)).number(),
-}];
+enum Call {
+    Plan { plant: Vec<u8>, offer: Vec<u8> },
+    Send { place: u32 },
+    Clock { to: u32 },
+}
+
+impl Call {
+    /// Makes the product's call so many times and gives the last ruling's number.
+    fn product(&self, board: &[u8], times: u32) -> u32 {
+        let (words, len) = (board.as_ptr(), board.len());
+        // SAFETY: each pointer is lent with the length of a live slice, which the call only reads.
+        unsafe {
+            match self {
+                Call::Plan { plant, offer } => sf_bench_plan(
+                    words,
+                    len,
+                    times,
+                    plant.as_ptr(),
+                    plant.len(),
+                    offer.as_ptr(),
+                    offer.len(),
+                ),
+                Call::Send { place } => sf_bench_send(words, len, times, *place),
+                Call::Clock { to } => sf_bench_clock(words, len, times, *to),
+            }
+        }
+    }
+
+    /// Makes this implementation's call and gives the ruling's number.
+    fn independent(&self, words: &mut [u32]) -> u32 {
+        let ruled = match self {
+            Call::Plan { plant, offer } => fast::plan(words, plant, offer),
+            Call::Send { place } => fast::send(words, *place),
+            Call::Clock { to } => fast::clock(words, *to),
+        };
+        Ruling::from(ruled).number()
+    }
+}
 
 /// Three steps of four points: 16 jobs of it have the 64 points there is room for.
 struct Work {
@@ -66,55 +105,43 @@ impl Work {
     }
 }
 
-enum Call {
-    Soundness,
-    Plan { plant: Vec<u8>, offer: Vec<u8> },
-    Send { place: u32 },
-    Clock { to: u32 },
-}
-
-/// A call on a board, and the best time of each form.
+/// A call on a board, the number it gets, and the times of every round.
 struct Case {
     name: &'static str,
     jobs: usize,
-    board: Words,
+    words: Words,
+    bytes: Vec<u8>,
     call: Call,
-    best_ns: [f64; FORMS.len()],
+    number: u32,
+    product_ns: Vec<f64>,
+    independent_ns: Vec<f64>,
 }
 
 impl Case {
-    fn run(&self, form: &Form, words: &mut [u32]) -> u32 {
-        match &self.call {
-            Call::Soundness => (form.send)(words, u32::MAX),
-            Call::Plan { plant, offer } => (form.plan)(words, plant, offer),
-            Call::Send { place } => (form.send)(words, *place),
-            Call::Clock { to } => (form.clock)(words, *to),
-        }
+    fn check(&self) {
+        let product = self.call.product(&self.bytes, 2);
+        let independent = self.call.independent(&mut self.words.clone());
+        let rulings = [product, independent];
+        assert_eq!(rulings, [self.number; 2], "{} {}", self.jobs, self.name);
     }
 
-    fn expected(&self) -> u32 {
-        match self.call {
-            Call::Soundness => 18,
-            _ => 0,
-        }
+    /// Nanoseconds for a turn of the product's, with the decoding of the board.
+    fn turn(&self, times: usize) -> f64 {
+        let start = Instant::now();
+        black_box(self.call.product(black_box(&self.bytes), times as u32));
+        start.elapsed().as_nanos() as f64
     }
 
-    /// Nanoseconds a call takes, over a turn.
-    fn time(&self, form: &Form, boards: &mut [Words]) -> f64 {
-        boards.fill(self.board);
+    fn take_turns(&mut self, boards: &mut [Words]) {
+        let calls = self.turn(CALLS_A_TURN) - self.turn(0);
+        self.product_ns.push(calls / CALLS_A_TURN as f64);
+        boards.fill(self.words);
         let start = Instant::now();
         for board in &mut *boards {
-            black_box(self.run(form, black_box(board)));
+            black_box(self.call.independent(black_box(board)));
         }
-        start.elapsed().as_nanos() as f64 / boards.len() as f64
-    }
-
-    /// Keeps the best of each: other work on the machine only ever adds time.
-    fn take_turns(&mut self, boards: &mut [Words]) {
-        for (number, form) in FORMS.iter().enumerate() {
-            let time = self.time(form, boards);
-            self.best_ns[number] = self.best_ns[number].min(time);
-        }
+        let calls = start.elapsed().as_nanos() as f64;
+        self.independent_ns.push(calls / CALLS_A_TURN as f64);
     }
 }
 
@@ -126,49 +153,56 @@ fn cases() -> Vec<Case> {
             plant: work.plant.clone(),
             offer: work.offer(jobs - 1),
         };
-        let send = Call::Send {
-            place: jobs as u32 - 1,
-        };
+        let last = jobs as u32 - 1;
         let calls = [
-            ("soundness", jobs, Call::Soundness),
+            ("soundness", jobs, Call::Send { place: u32::MAX }, 18),
             // The plan of the last job.
-            ("plan", jobs - 1, plan),
-            ("send", jobs, send),
-            ("clock", jobs, Call::Clock { to: 1_000 }),
+            ("plan", jobs - 1, plan, 0),
+            ("send", jobs, Call::Send { place: last }, 0),
+            ("clock", jobs, Call::Clock { to: 1_000 }, 0),
         ];
-        cases.extend(calls.map(|(name, jobs_before, call)| Case {
-            name,
-            jobs,
-            board: work.board(jobs_before),
-            call,
-            best_ns: [f64::MAX; FORMS.len()],
+        cases.extend(calls.map(|(name, jobs_before, call, number)| {
+            let words = work.board(jobs_before);
+            Case {
+                name,
+                jobs,
+                words,
+                bytes: words.iter().flat_map(|word| word.to_le_bytes()).collect(),
+                call,
+                number,
+                product_ns: Vec::new(),
+                independent_ns: Vec::new(),
+            }
         }));
     }
     cases
 }
 
+fn median(times: &mut [f64]) -> f64 {
+    times.sort_by(f64::total_cmp);
+    times[times.len() / 2]
+}
+
 pub fn time_boards() {
     let mut cases = cases();
-    let mut boards = vec![[0; BOARD_WORDS]; BOARDS_A_TURN];
-    for case in &cases {
-        for form in &FORMS {
-            let number = case.run(form, &mut case.board.clone());
-            assert_eq!(number, case.expected(), "{} of {}", case.name, form.name);
-        }
-    }
+    let mut boards = vec![[0; BOARD_WORDS]; CALLS_A_TURN];
+    cases.iter().for_each(Case::check);
     for _ in 0..ROUNDS {
         for case in &mut cases {
             case.take_turns(&mut boards);
         }
     }
-    print!("\njobs  call     ");
-    FORMS
-        .iter()
-        .for_each(|form| print!("  {:>14}", form.name.to_owned() + " ns"));
-    println!();
-    for case in &cases {
-        print!("{:4}  {:9}", case.jobs, case.name);
-        case.best_ns.iter().for_each(|best| print!("  {best:14.1}"));
-        println!();
+    println!("\njobs  call        product ns  independent ns  ratio");
+    for case in &mut cases {
+        let product = median(&mut case.product_ns);
+        let independent = median(&mut case.independent_ns);
+        println!(
+            "{:4}  {:9}  {:11.1}  {:14.1}  {:5.2}",
+            case.jobs,
+            case.name,
+            product,
+            independent,
+            product / independent
+        );
     }
 }

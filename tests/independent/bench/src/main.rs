@@ -1,6 +1,6 @@
-//! Times the product's fact check beside the independent one, on the same bytes in one run.
+//! Times the product's fact check and board calls beside the independent ones, on the same bytes in
+//! one run.
 
-#[cfg(feature = "board")]
 mod board;
 
 use independent::fact_check;
@@ -115,7 +115,6 @@ fn main() -> ExitCode {
     let at_128 = cases.iter().filter(|case| case.actions == 128);
     let worst = at_128.map(Case::ratio).fold(0.0, f64::max);
     println!("ratio at 128 actions: {worst:.2} (goal {GOAL:.2})");
-    #[cfg(feature = "board")]
     board::time_boards();
     ExitCode::SUCCESS
 }

@@ -1,10 +1,10 @@
--- `calls::vocabulary::word_of` meets its contract. A test that held says which word it is; five that failed say that it is none. Assumes nothing.
+-- `calls::vocabulary::word_of` meets its contract. A test that held says which word it is; twelve that failed say that it is none. Assumes nothing.
 use mathlib.Core.Bool.{Bool, true, false}
 use mathlib.Core.Logic.{inl, inr}
 use mathlib.Core.List.{List}
 use Rattle.calls.specs.Vocabulary.{nameOf}
 use Rattle.calls.specs.declared.vocabulary.Word.{Word}
-use Rattle.calls.specs.declared.vocabulary.Word.the-variants.{List as ListWord, Plant, Check, Part, Fact, Unknown}
+use Rattle.calls.specs.declared.vocabulary.Word.the-variants.{List as ListWord, Plant, Check, Part, Fact, Fresh, Board, Plan, Send, Clock, Table, State, Unknown}
 use Prim.Native.Nat.{ℕ}
 use mathlib.Core.Path.{_≡_, refl, sym, _∙_}
 use native.Mathlib.Omega.{arith}
@@ -12,18 +12,43 @@ use borrow.Author.Needs.{needs}
 use Rattle.calls.proofs.vocabulary.word_of.Statement.{statement}
 use Rattle.calls.proofs.vocabulary.word_of.Tie as tie
 
+-- s is not how the word v is written
+abbrev IsNot : List ℕ → Word → Type 0
+IsNot s v = s ≡ nameOf v → ⊥
+
 -- a test that failed: the two texts differ
 differ : {s t : List ℕ} (b : Bool) → b ≡ false → (s ≡ t → b ≡ true) → s ≡ t → ⊥
 differ b e f p = let z : false ≡ true = sym e ∙ f p in let n : _≡_ {A = ℕ} 0 1 = cc in omega arith
 
 -- what is none of the names is no known word
-unknown : (s : List ℕ) → (s ≡ nameOf ListWord → ⊥) → (s ≡ nameOf Plant → ⊥) → (s ≡ nameOf Check → ⊥) → (s ≡ nameOf Part → ⊥) → (s ≡ nameOf Fact → ⊥) → (v : Word) → s ≡ nameOf v → v ≡ Unknown
-unknown s l p c a f ListWord e = absurd (l e)
-unknown s l p c a f Plant e = absurd (p e)
-unknown s l p c a f Check e = absurd (c e)
-unknown s l p c a f Part e = absurd (a e)
-unknown s l p c a f Fact e = absurd (f e)
-unknown s l p c a f Unknown e = refl
+unknown :
+    (s : List ℕ)
+    → IsNot s ListWord
+    → IsNot s Plant
+    → IsNot s Check
+    → IsNot s Part
+    → IsNot s Fact
+    → IsNot s Fresh
+    → IsNot s Board
+    → IsNot s Plan
+    → IsNot s Send
+    → IsNot s Clock
+    → IsNot s Table
+    → IsNot s State
+    → (v : Word) → s ≡ nameOf v → v ≡ Unknown
+unknown s h1 h2 h3 h4 h5 h6 h7 h8 h9 h10 h11 h12 ListWord e = absurd (h1 e)
+unknown s h1 h2 h3 h4 h5 h6 h7 h8 h9 h10 h11 h12 Plant e = absurd (h2 e)
+unknown s h1 h2 h3 h4 h5 h6 h7 h8 h9 h10 h11 h12 Check e = absurd (h3 e)
+unknown s h1 h2 h3 h4 h5 h6 h7 h8 h9 h10 h11 h12 Part e = absurd (h4 e)
+unknown s h1 h2 h3 h4 h5 h6 h7 h8 h9 h10 h11 h12 Fact e = absurd (h5 e)
+unknown s h1 h2 h3 h4 h5 h6 h7 h8 h9 h10 h11 h12 Fresh e = absurd (h6 e)
+unknown s h1 h2 h3 h4 h5 h6 h7 h8 h9 h10 h11 h12 Board e = absurd (h7 e)
+unknown s h1 h2 h3 h4 h5 h6 h7 h8 h9 h10 h11 h12 Plan e = absurd (h8 e)
+unknown s h1 h2 h3 h4 h5 h6 h7 h8 h9 h10 h11 h12 Send e = absurd (h9 e)
+unknown s h1 h2 h3 h4 h5 h6 h7 h8 h9 h10 h11 h12 Clock e = absurd (h10 e)
+unknown s h1 h2 h3 h4 h5 h6 h7 h8 h9 h10 h11 h12 Table e = absurd (h11 e)
+unknown s h1 h2 h3 h4 h5 h6 h7 h8 h9 h10 h11 h12 State e = absurd (h12 e)
+unknown s h1 h2 h3 h4 h5 h6 h7 h8 h9 h10 h11 h12 Unknown e = refl
 
 slice-aggregate-same : tie.Need-slice-aggregate-same
 slice-aggregate-same c = search needs
@@ -70,15 +95,85 @@ same-requires-5 c κs = search needs
 returns-5 : tie.Need-returns-5
 returns-5 c = inl (c .before .same5 .ensures .0 (c .if5 .taken))
 
+slice-aggregate-same-6 : tie.Need-slice-aggregate-same-6
+slice-aggregate-same-6 c = search needs
+
+same-requires-6 : tie.Need-same-requires-6
+same-requires-6 c κs = search needs
+
 returns-6 : tie.Need-returns-6
-returns-6 c = inr (
+returns-6 c = inl (c .before .same6 .ensures .0 (c .if6 .taken))
+
+slice-aggregate-same-7 : tie.Need-slice-aggregate-same-7
+slice-aggregate-same-7 c = search needs
+
+same-requires-7 : tie.Need-same-requires-7
+same-requires-7 c κs = search needs
+
+returns-7 : tie.Need-returns-7
+returns-7 c = inl (c .before .same7 .ensures .0 (c .if7 .taken))
+
+slice-aggregate-same-8 : tie.Need-slice-aggregate-same-8
+slice-aggregate-same-8 c = search needs
+
+same-requires-8 : tie.Need-same-requires-8
+same-requires-8 c κs = search needs
+
+returns-8 : tie.Need-returns-8
+returns-8 c = inl (c .before .same8 .ensures .0 (c .if8 .taken))
+
+slice-aggregate-same-9 : tie.Need-slice-aggregate-same-9
+slice-aggregate-same-9 c = search needs
+
+same-requires-9 : tie.Need-same-requires-9
+same-requires-9 c κs = search needs
+
+returns-9 : tie.Need-returns-9
+returns-9 c = inl (c .before .same9 .ensures .0 (c .if9 .taken))
+
+slice-aggregate-same-10 : tie.Need-slice-aggregate-same-10
+slice-aggregate-same-10 c = search needs
+
+same-requires-10 : tie.Need-same-requires-10
+same-requires-10 c κs = search needs
+
+returns-10 : tie.Need-returns-10
+returns-10 c = inl (c .before .same10 .ensures .0 (c .if10 .taken))
+
+slice-aggregate-same-11 : tie.Need-slice-aggregate-same-11
+slice-aggregate-same-11 c = search needs
+
+same-requires-11 : tie.Need-same-requires-11
+same-requires-11 c κs = search needs
+
+returns-11 : tie.Need-returns-11
+returns-11 c = inl (c .before .same11 .ensures .0 (c .if11 .taken))
+
+slice-aggregate-same-12 : tie.Need-slice-aggregate-same-12
+slice-aggregate-same-12 c = search needs
+
+same-requires-12 : tie.Need-same-requires-12
+same-requires-12 c κs = search needs
+
+returns-12 : tie.Need-returns-12
+returns-12 c = inl (c .before .same12 .ensures .0 (c .if12 .taken))
+
+returns-13 : tie.Need-returns-13
+returns-13 c = inr (
   refl,
   unknown _
-      (differ _ (c .before .before .before .before .before .before .before .before .before .before .before .before .if1 .left) (c .before .before .before .before .before .before .before .before .before .before .before .before .before .same .ensures .1))
-      (differ _ (c .before .before .before .before .before .before .before .before .before .if2 .left) (c .before .before .before .before .before .before .before .before .before .before .same2 .ensures .1))
-      (differ _ (c .before .before .before .before .before .before .if3 .left) (c .before .before .before .before .before .before .before .same3 .ensures .1))
-      (differ _ (c .before .before .before .if4 .left) (c .before .before .before .before .same4 .ensures .1))
-      (differ _ (c .if5 .left) (c .before .same5 .ensures .1)),
+      (differ _ (c .before .before .before .before .before .before .before .before .before .before .before .before .before .before .before .before .before .before .before .before .before .before .before .before .before .before .before .before .before .before .before .before .before .if1 .left) (c .before .before .before .before .before .before .before .before .before .before .before .before .before .before .before .before .before .before .before .before .before .before .before .before .before .before .before .before .before .before .before .before .before .before .same .ensures .1))
+      (differ _ (c .before .before .before .before .before .before .before .before .before .before .before .before .before .before .before .before .before .before .before .before .before .before .before .before .before .before .before .before .before .before .if2 .left) (c .before .before .before .before .before .before .before .before .before .before .before .before .before .before .before .before .before .before .before .before .before .before .before .before .before .before .before .before .before .before .before .same2 .ensures .1))
+      (differ _ (c .before .before .before .before .before .before .before .before .before .before .before .before .before .before .before .before .before .before .before .before .before .before .before .before .before .before .before .if3 .left) (c .before .before .before .before .before .before .before .before .before .before .before .before .before .before .before .before .before .before .before .before .before .before .before .before .before .before .before .before .same3 .ensures .1))
+      (differ _ (c .before .before .before .before .before .before .before .before .before .before .before .before .before .before .before .before .before .before .before .before .before .before .before .before .if4 .left) (c .before .before .before .before .before .before .before .before .before .before .before .before .before .before .before .before .before .before .before .before .before .before .before .before .before .same4 .ensures .1))
+      (differ _ (c .before .before .before .before .before .before .before .before .before .before .before .before .before .before .before .before .before .before .before .before .before .if5 .left) (c .before .before .before .before .before .before .before .before .before .before .before .before .before .before .before .before .before .before .before .before .before .before .same5 .ensures .1))
+      (differ _ (c .before .before .before .before .before .before .before .before .before .before .before .before .before .before .before .before .before .before .if6 .left) (c .before .before .before .before .before .before .before .before .before .before .before .before .before .before .before .before .before .before .before .same6 .ensures .1))
+      (differ _ (c .before .before .before .before .before .before .before .before .before .before .before .before .before .before .before .if7 .left) (c .before .before .before .before .before .before .before .before .before .before .before .before .before .before .before .before .same7 .ensures .1))
+      (differ _ (c .before .before .before .before .before .before .before .before .before .before .before .before .if8 .left) (c .before .before .before .before .before .before .before .before .before .before .before .before .before .same8 .ensures .1))
+      (differ _ (c .before .before .before .before .before .before .before .before .before .if9 .left) (c .before .before .before .before .before .before .before .before .before .before .same9 .ensures .1))
+      (differ _ (c .before .before .before .before .before .before .if10 .left) (c .before .before .before .before .before .before .before .same10 .ensures .1))
+      (differ _ (c .before .before .before .if11 .left) (c .before .before .before .before .same11 .ensures .1))
+      (differ _ (c .if12 .left) (c .before .same12 .ensures .1)),
 )
 
 pub word-of-spec : {M : Type 1} → statement M
@@ -100,4 +195,25 @@ word-of-spec =
     slice-aggregate-same-5
     same-requires-5
     returns-5
-    returns-6)
+    slice-aggregate-same-6
+    same-requires-6
+    returns-6
+    slice-aggregate-same-7
+    same-requires-7
+    returns-7
+    slice-aggregate-same-8
+    same-requires-8
+    returns-8
+    slice-aggregate-same-9
+    same-requires-9
+    returns-9
+    slice-aggregate-same-10
+    same-requires-10
+    returns-10
+    slice-aggregate-same-11
+    same-requires-11
+    returns-11
+    slice-aggregate-same-12
+    same-requires-12
+    returns-12
+    returns-13)

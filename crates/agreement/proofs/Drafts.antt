@@ -1,0 +1,160 @@
+-- What an offer comes to before timetables are looked at keeps the limits: 14, 15 and 16 see to it.
+--   PlacedSized n q     the lines that placing comes to are sized;  placed-sized shows it
+--   DraftSized s q      a draft stops, or its state is within the limits;  drafted-sized shows it, where s is
+use mathlib.Core.Path.{_≡_, refl, _∙_}
+use mathlib.Core.Bool.{Bool, true, false, cond}
+use mathlib.Core.List.{List, [], _∷_, _++_}
+use Prim.Native.Nat.{ℕ, zero, suc, _+_, _≤_, _<_}
+use native.Mathlib.Omega.{arith}
+use lib.Dec.{ltb, leb}
+use lib.ListN.{length, getD, set, length-append, length-set}
+use borrow.Author.Tests.{leb-false}
+use Rattle.rulings.specs.Answer.{cause}
+use Rattle.plain.specs.declared.Put.{Put}
+use Rattle.plain.specs.declared.Rule.{Rule}
+use Rattle.plain.specs.declared.Use.{Use}
+use Rattle.plain.specs.Plain.{
+  Offer,
+  State,
+  Placed,
+  Draft,
+  total,
+  liveCount,
+  full,
+  pointsOf,
+  jobFrom,
+  usedFrom,
+  inserted,
+  ruleBefore,
+  ruleAfter,
+  placed,
+  joining,
+  drafted,
+}
+use Rattle.lines.proofs.LineLaws.{length-inserted}
+use Rattle.lines.proofs.DraftLaws.{within}
+use Rattle.lists.specs.All.{All}
+use Rattle.lists.proofs.All.{all-get, all-append, all-set, all-map}
+use Rattle.sound.specs.Sound.{SizedJob, SizedUse}
+use Rattle.demands.proofs.Jobs.{total-append}
+use Rattle.demands.proofs.Sent.{first-append}
+use Rattle.agreement.proofs.Parts.{SizedLine, Limits}
+use Rattle.offered.specs.Sized.{SizedPut, SizedOffer}
+
+-- ---- lines
+
+module _ (n m : ℕ) (le : n ≤ m) where
+  use-wider : (u : Use) → SizedUse n u → SizedUse m u
+  use-wider u s =
+      let hi = s .live in
+      record { not-origin = s .not-origin; live = omega (arith, hi, le); offset = s .offset; some = s .some; length = s .length }
+
+  line-wider : (us : List Use) → SizedLine n us → SizedLine m us
+  line-wider us s = record { few = s .few; uses = all-map (SizedUse n) (SizedUse m) use-wider us (s .uses) }
+
+inserted-sized : (n p : ℕ) (u : Use) (us : List Use) → SizedUse n u → All (SizedUse n) us → All (SizedUse n) (inserted p u us)
+unfolding inserted
+inserted-sized n zero u us s a = (s, a)
+inserted-sized n (suc p) u [] s a = (s, tt)
+inserted-sized n (suc p) u (x ∷ us) s a = (a .0, inserted-sized n p u us s (a .1))
+
+-- ---- placing
+
+unfoldable pub PlacedSized : ℕ → Placed → Type 0
+PlacedSized n (Placed.stop c) = Unit {0}
+PlacedSized n (Placed.done ls rs) = (length ls ≡ 16) × All (SizedLine n) ls
+
+-- x is p0 of the job, and k the number of its steps
+placed-sized :
+    (n x k i : ℕ) (ps : List Put) (ls : List (List Use)) (rs : List Rule) → 0 < x → x + k ≤ suc n
+    → All (SizedPut k) ps → length ls ≡ 16 → All (SizedLine n) ls → PlacedSized n (placed x i ps ls rs)
+unfolding PlacedSized placed usedFrom
+placed-sized n x k i [] ls rs z le a e b = (e, b)
+placed-sized n x k i (p ∷ ps) ls rs z le a e b =
+    choose (ltb (length line) (p .place)) (leb 32 (length line)) refl (placed x (suc i) ps after rules)
+    (λ room. placed-sized n x k (suc i) ps after rules z le (a .1) (length-set ls (p .resource) longer ∙ e) (after-sized room))
+  where
+    line : List Use
+    line = getD ls (p .resource) []
+
+    longer : List Use
+    longer = inserted (p .place) (usedFrom x p) line
+
+    after : List (List Use)
+    after = set ls (p .resource) longer
+
+    rules : List Rule
+    rules = rs ++ (ruleBefore line (p .place) (usedFrom x p) ++ ruleAfter line (p .place) (usedFrom x p))
+
+    use-sized : SizedUse n (usedFrom x p)
+    use-sized =
+        let s = a .0 .step in
+        record { not-origin = omega arith; live = omega (arith, s); offset = a .0 .offset; some = a .0 .some; length = a .0 .length }
+
+    line-sized : SizedLine n line
+    line-sized = all-get (SizedLine n) ls (p .resource) [] b (record { few = omega arith; uses = tt })
+
+    after-sized : length line < 32 → All (SizedLine n) after
+    after-sized room =
+        all-set (SizedLine n) ls (p .resource) longer b
+        (record {
+          few = omega (arith, length-inserted (p .place) (usedFrom x p) line);
+          uses = inserted-sized n (p .place) (usedFrom x p) line use-sized (line-sized .uses);
+        })
+
+    choose :
+        (exceeds has32 : Bool) → leb 32 (length line) ≡ has32 → (next : Placed) → (length line < 32 → PlacedSized n next)
+        → PlacedSized n (cond exceeds (Placed.stop (cause 15 i)) (cond has32 (Placed.stop (cause 16 i)) next))
+    choose true has32 e next q = tt
+    choose false true e next q = tt
+    choose false false e next q = q (leb-false 32 (length line) e)
+
+-- ---- drafts
+
+unfoldable pub DraftSized : State → Draft → Type 0
+DraftSized s (Draft.stop c) = Unit {0}
+DraftSized s (Draft.go next n rs) = Limits next × (next .horizon ≡ s .horizon)
+
+module _ {s : State} (p : Limits s) (o : Offer) (sized : SizedOffer o) where
+  joined-total : total (s .jobs ++ (jobFrom o ∷ [])) ≡ total (s .jobs) + pointsOf o
+  unfolding total
+  joined-total = omega (arith, total-append (s .jobs) (jobFrom o ∷ []))
+
+  joining-sized :
+      (q : Placed) → length (s .jobs) < 16 → total (s .jobs) + pointsOf o ≤ 64 → PlacedSized (total (s .jobs) + pointsOf o) q
+      → DraftSized s (joining s o q)
+  unfolding DraftSized joining PlacedSized
+  joining-sized (Placed.stop c) few points a = tt
+  joining-sized (Placed.done ls rs) few points a =
+      let lo = sized .some in
+      let hi = sized .few in
+      let job : SizedJob (jobFrom o) = record { least = omega (arith, lo); most = omega (arith, hi) } in (
+        record {
+          horizon = p .horizon;
+          lead = p .lead;
+          clock = p .clock;
+          jobs = omega (arith, length-append (s .jobs) (jobFrom o ∷ []));
+          sizes = all-append SizedJob (s .jobs) (jobFrom o ∷ []) (p .sizes) (job, tt);
+          points = omega (arith, joined-total);
+          sixteen = a .0;
+          lines = rw joined-total (a .1);
+          sent-first = first-append (s .jobs) (jobFrom o) tt (p .sent-first);
+        },
+        refl,
+      )
+
+  pub drafted-sized : DraftSized s (drafted s o)
+  unfolding DraftSized drafted liveCount
+  drafted-sized = go (full s (pointsOf o)) refl
+    where
+      points : ℕ
+      points = total (s .jobs) + pointsOf o
+
+      go : (b : Bool) → full s (pointsOf o) ≡ b
+          → DraftSized s (cond b (Draft.stop (cause 14 0)) (joining s o (placed (liveCount s) 0 (o .puts) (s .lines) [])))
+      go true e = tt
+      go false e =
+          let room = within s (pointsOf o) e in
+          joining-sized (placed (liveCount s) 0 (o .puts) (s .lines) []) (room .0) (room .1)
+          (placed-sized points (liveCount s) (length (o .steps)) 0 (o .puts) (s .lines) [] (omega arith) (omega arith) (sized .puts) (p .sixteen)
+          (all-map (SizedLine (total (s .jobs))) (SizedLine points) (line-wider (total (s .jobs)) points (omega arith)) (s .lines) (p .lines)))

@@ -1,0 +1,116 @@
+-- Refusal 14, past the reading: there are 16 jobs, or the points would pass 64; and no other cause is 14.
+--   NoRoom s n       so, of a state s and n new points;  full-to, full-of: the test says it
+--   placed-other     placing stops with 15 or 16 alone
+--   decided-14       what is decided is 14 exactly where there is no room
+use mathlib.Core.Path.{_≡_, refl, sym, _∙_}
+use mathlib.Core.Logic.{_↔_, _⊎_, inl, inr}
+use mathlib.Core.Bool.{Bool, true, false, true≢false, false≢true, cond, _||_}
+use mathlib.Core.List.{List, [], _∷_, _++_}
+use mathlib.Core.Option.{Option, some, none}
+use Prim.Native.Nat.{ℕ, suc, _+_, _≤_, _<_}
+use native.Mathlib.Decide.{decLe}
+use native.Mathlib.Omega.{arith}
+use lib.Dec.{ltb, leb}
+use lib.ListN.{length, getD, set}
+use borrow.Author.Tests.{lt-leb, le-ltb}
+use Rattle.rulings.specs.Answer.{cause, plain, refuse}
+use Rattle.plain.specs.declared.Put.{Put}
+use Rattle.plain.specs.declared.Rule.{Rule}
+use Rattle.plain.specs.declared.Use.{Use}
+use Rattle.plain.specs.Plain.{
+  Offer,
+  State,
+  Placed,
+  Draft,
+  total,
+  liveCount,
+  full,
+  pointsOf,
+  usedFrom,
+  inserted,
+  ruleBefore,
+  ruleAfter,
+  placed,
+  joining,
+  drafted,
+}
+use Rattle.lines.proofs.DraftLaws.{within}
+use Rattle.sound.specs.declared.Board.{Board}
+use Rattle.board.specs.Boards.{stateOf}
+use Rattle.board.specs.Calls.{settled, decided}
+
+abbrev pub NoRoom : State → ℕ → Type 0
+NoRoom s n = (length (s .jobs) ≡ 16) ⊎ (64 < total (s .jobs) + n)
+
+module _ (s : State) (n : ℕ) where
+  full-to : length (s .jobs) ≤ 16 → full s n ≡ true → NoRoom s n
+  unfolding full
+  full-to le e = go (decLe 16 (length (s .jobs))) (decLe (total (s .jobs) + n) 64)
+    where
+      neither : length (s .jobs) < 16 → total (s .jobs) + n ≤ 64 → (leb 16 (length (s .jobs)) || ltb 64 (total (s .jobs) + n)) ≡ false
+      neither h d = rw (lt-leb 16 (length (s .jobs)) h, le-ltb 64 (total (s .jobs) + n) d)
+
+      go : Dec (16 ≤ length (s .jobs)) → Dec (total (s .jobs) + n ≤ 64) → NoRoom s n
+      go (yes h) d = inl (omega arith)
+      go (no h) (no d) = inr (omega arith)
+      go (no h) (yes d) = absurd (true≢false (sym e ∙ neither (omega arith) d))
+
+  full-of : NoRoom s n → full s n ≡ true
+  full-of h = go (full s n) refl h
+    where
+      go : (t : Bool) → full s n ≡ t → NoRoom s n → t ≡ true
+      go true e h = refl
+      go false e (inl h) = let room = within s n e in absurd (omega (arith, room .0))
+      go false e (inr h) = let room = within s n e in absurd (omega (arith, room .1))
+
+-- ---- no other cause is 14
+
+unfoldable Other : Placed → Type 0
+Other (Placed.stop c) = c ≡ plain 14 → ⊥
+Other (Placed.done ls rs) = Unit {0}
+
+placed-other : (x i : ℕ) (ps : List Put) (ls : List (List Use)) (rs : List Rule) → Other (placed x i ps ls rs)
+unfolding Other placed
+placed-other x i [] ls rs = tt
+placed-other x i (p ∷ ps) ls rs = choose (ltb (length line) (p .place)) (leb 32 (length line)) _ (placed-other x (suc i) ps after rules)
+  where
+    line : List Use
+    line = getD ls (p .resource) []
+
+    after : List (List Use)
+    after = set ls (p .resource) (inserted (p .place) (usedFrom x p) line)
+
+    rules : List Rule
+    rules = rs ++ (ruleBefore line (p .place) (usedFrom x p) ++ ruleAfter line (p .place) (usedFrom x p))
+
+    choose :
+        (exceeds has32 : Bool) (next : Placed) → Other next
+        → Other (cond exceeds (Placed.stop (cause 15 i)) (cond has32 (Placed.stop (cause 16 i)) next))
+    choose true has32 next q = λ e. let z : _≡_ {A = ℕ} 0 1 = cc in omega arith
+    choose false true next q = λ e. let z : _≡_ {A = ℕ} 0 1 = cc in omega arith
+    choose false false next q = q
+
+module _ (b : Board) (o : Offer) where
+  settled-other : (s : State) (q : Option (List ℕ)) → settled b 17 s q .ruling ≡ refuse 14 → ⊥
+  unfolding settled
+  settled-other s (some l) e = let z : _≡_ {A = ℕ} 0 1 = cc in omega arith
+  settled-other s none e = let z : _≡_ {A = ℕ} 17 14 = cc in omega arith
+
+  joining-other : (q : Placed) → Other q → decided b (joining (stateOf b) o q) .ruling ≡ refuse 14 → ⊥
+  unfolding Other decided joining
+  joining-other (Placed.stop c) other e = other cc
+  joining-other (Placed.done ls rs) other e = settled-other _ _ e
+
+  pub decided-14 :
+      length (stateOf b .jobs) ≤ 16 → (decided b (drafted (stateOf b) o) .ruling ≡ refuse 14) ↔ NoRoom (stateOf b) (pointsOf o)
+  unfolding drafted decided
+  decided-14 le =
+      let p = go (full (stateOf b) (pointsOf o)) in
+      (λ e. full-to (stateOf b) (pointsOf o) le (p .0 e), λ h. p .1 (full-of (stateOf b) (pointsOf o) h))
+    where
+      q : Placed
+      q = placed (liveCount (stateOf b)) 0 (o .puts) (stateOf b .lines) []
+
+      go : (t : Bool) → (decided b (cond t (Draft.stop (plain 14)) (joining (stateOf b) o q)) .ruling ≡ refuse 14) ↔ (t ≡ true)
+      go true = (λ e. refl, λ e. refl)
+      go false = (λ e. absurd (joining-other q (placed-other (liveCount (stateOf b)) 0 (o .puts) (stateOf b .lines) []) e), λ e. absurd (false≢true e))

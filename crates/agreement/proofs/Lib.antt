@@ -1,0 +1,12 @@
+pub mod Parts
+pub mod Books
+pub mod Tables
+pub mod Drafts
+pub mod States
+pub mod Keeps
+pub mod Agreement
+pub mod Exact
+pub mod Sending
+pub mod Fourteen
+pub mod Refused
+pub mod Demand2

@@ -1,0 +1,182 @@
+-- Soundness, of a state and a list of cells: what document 01 asks of a board, said of what it holds. Laws of calls are over these parts.
+--   SizedLine n us     a line of at most 32 uses, each of the first n points beside the origin
+--   Limits s           the state's numbers, jobs and lines are within the limits, and sent jobs come before unsent ones
+--   Parts s l          the state s and the cells l are those of a sound board
+--   parts-of           a sound board's are
+--   state-back         a state of at most 16 jobs and at most 32 uses in each line (Few) is held by the board made of it
+--   parts-state        so the board made of sound parts holds them;  parts-sound, parts-shaped: it is sound, and its arrays have their lengths
+use mathlib.Core.Path.{_≡_, refl, ap₂, _∙_}
+use mathlib.Core.Bool.{Bool, true, false, not}
+use mathlib.Core.List.{List, [], _∷_}
+use Prim.Native.Nat.{ℕ, zero, suc, _+_, _≤_, _<_}
+use native.Mathlib.Omega.{arith}
+use lib.Dec.{T}
+use lib.ListN.{length, getD, length-take, length-map}
+use Rattle.plain.specs.declared.Job.{Job}
+use Rattle.plain.specs.declared.Use.{Use}
+use Rattle.plain.specs.Plain.{State, total, liveCount}
+use Rattle.lines.specs.declared.Line.{Line}
+use Rattle.lines.specs.Held.{noJob, jobsOf, lineOf, lineFrom, linesOf, linesFrom, noLine}
+use Rattle.lines.proofs.Padded.{length-padded}
+use Rattle.lines.proofs.JobLaws.{jobs-back}
+use Rattle.lines.proofs.LineLaws.{line-back}
+use Rattle.gaps.specs.Cells.{tableOf}
+use Rattle.gaps.specs.GapTable.{GapTable}
+use Rattle.sound.specs.declared.Board.{Board}
+use Rattle.lists.specs.All.{All}
+use Rattle.sound.specs.Sound.{SizedJob, SizedUse, StillSent, Sound}
+use Rattle.sound.specs.Sound as Sounds
+use Rattle.board.specs.Boards.{stateOf, boardOf}
+use Rattle.demands.specs.Beside.{Each, StillJobs}
+use Rattle.demands.specs.Sent.{NoneSent, SentFirst}
+use Rattle.agreement.specs.Abstract.{Shaped}
+
+pub record SizedLine (n : ℕ) (us : List Use) : Type 0 where
+  pub few : length us ≤ 32
+  pub uses : All (SizedUse n) us
+
+pub record Limits (s : State) : Type 0 where
+  pub horizon : (1 ≤ s .horizon) × (s .horizon ≤ 100000000)
+  pub lead : s .lead ≤ 1000000
+  pub clock : s .clock ≤ s .horizon
+  pub jobs : length (s .jobs) ≤ 16
+  pub sizes : All SizedJob (s .jobs)
+  pub points : total (s .jobs) ≤ 64
+  pub sixteen : length (s .lines) ≡ 16
+  pub lines : All (SizedLine (total (s .jobs))) (s .lines)
+  pub sent-first : SentFirst (s .jobs)
+
+pub record Parts (s : State) (l : List ℕ) : Type 0 where
+  pub limits : Limits s
+  pub cells : length l ≡ 4225
+  pub table : GapTable l (liveCount s) (s .horizon)
+  pub still : StillJobs (tableOf l) 1 (s .jobs)
+
+-- ---- sent jobs, as soundness and as the abstract board say it
+
+T-is : (b : Bool) → T b → b ≡ true
+T-is true t = refl
+T-is false t = absurd t
+
+T-not-is : (b : Bool) → T (not b) → b ≡ false
+T-not-is true t = absurd t
+T-not-is false t = refl
+
+none-to : (js : List Job) → Sounds.NoneSent js → NoneSent js
+unfolding NoneSent
+none-to [] a = tt
+none-to (j ∷ js) a = (rw (a .0) tt, none-to js (a .1))
+
+none-of : (js : List Job) → NoneSent js → Sounds.NoneSent js
+unfolding NoneSent
+none-of [] a = tt
+none-of (j ∷ js) a = (T-not-is (j .sent) (a .0), none-of js (a .1))
+
+first-to : (js : List Job) → Sounds.SentFirst js → SentFirst js
+unfolding SentFirst
+first-to [] a = tt
+first-to (j ∷ js) a = ((λ t. none-to js (a .0 (T-not-is (j .sent) t))), first-to js (a .1))
+
+first-of : (js : List Job) → SentFirst js → Sounds.SentFirst js
+unfolding SentFirst
+first-of [] a = tt
+first-of (j ∷ js) a = ((λ e. none-of js (a .0 (rw e tt))), first-of js (a .1))
+
+still-to : (l : List ℕ) (x : ℕ) (js : List Job) → StillSent l x js → StillJobs (tableOf l) x js
+unfolding Each
+still-to l x [] a = tt
+still-to l x (j ∷ js) a = ((λ i lo hi sent. a .0 (T-is (j .sent) sent) i lo hi), still-to l (x + j .points) js (a .1))
+
+still-of : (l : List ℕ) (x : ℕ) (js : List Job) → StillJobs (tableOf l) x js → StillSent l x js
+unfolding Each
+still-of l x [] a = tt
+still-of l x (j ∷ js) a = ((λ e i lo hi. a .0 i lo hi (rw e tt)), still-of l (x + j .points) js (a .1))
+
+-- ---- from a board
+
+lines-sized :
+    (n : ℕ) (ls : List Line) → ((k : ℕ) → k < length ls → getD ls k noLine .count ≤ 32)
+    → ((k : ℕ) → k < length ls → All (SizedUse n) (lineOf (getD ls k noLine))) → All (SizedLine n) (linesOf ls)
+lines-sized n [] few uses = tt
+lines-sized n (q ∷ ls) few uses = (
+  record { few = omega (arith, length-take (q .count) (q .uses), few zero (omega arith)); uses = uses zero (omega arith) },
+  lines-sized n ls (λ k h. few (suc k) (omega arith)) (λ k h. uses (suc k) (omega arith)),
+)
+
+pub parts-of : (b : Board) → Shaped b → Sound b → Parts (stateOf b) (b .gaps)
+unfolding liveCount
+parts-of b w s =
+    let sixteen = w .lines in
+    record {
+      limits =
+          record {
+            horizon = s .horizon;
+            lead = s .lead;
+            clock = s .clock;
+            jobs = omega (arith, length-take (b .jobs .count) (b .jobs .jobs), s .jobs);
+            sizes = s .sizes;
+            points = s .points;
+            sixteen = length-map (b .lines) lineOf ∙ sixteen;
+            lines = lines-sized (total (jobsOf (b .jobs))) (b .lines) (λ k h. s .lines k (omega arith)) (λ k h. s .uses k (omega arith));
+            sent-first = first-to (jobsOf (b .jobs)) (s .sent-first);
+          };
+      cells = w .gaps;
+      table = s .table;
+      still = still-to (b .gaps) 1 (jobsOf (b .jobs)) (s .sent-still);
+    }
+
+-- ---- to a board
+
+abbrev pub Few : List (List Use) → Type 0
+Few ls = All (λ us. length us ≤ 32) ls
+
+sized-few : (n : ℕ) (ls : List (List Use)) → All (SizedLine n) ls → Few ls
+sized-few n [] a = tt
+sized-few n (us ∷ ls) a = (a .0 .few, sized-few n ls (a .1))
+
+lines-back : (ls : List (List Use)) → Few ls → linesOf (linesFrom ls) ≡ ls
+lines-back [] a = refl
+lines-back (us ∷ ls) a = ap₂ _∷_ (line-back us (a .0)) (lines-back ls (a .1))
+
+pub state-back : (s : State) (l : List ℕ) → length (s .jobs) ≤ 16 → Few (s .lines) → stateOf (boardOf s l) ≡ s
+state-back s l few lines =
+    ap₂ (λ (js : List Job) (ls : List (List Use)). record { jobs = js; lines = ls; clock = s .clock; horizon = s .horizon; lead = s .lead })
+    (jobs-back (s .jobs) few) (lines-back (s .lines) lines)
+
+line-at :
+    (n : ℕ) (ls : List (List Use)) → All (SizedLine n) ls → (k : ℕ)
+    → (getD (linesFrom ls) k noLine .count ≤ 32) × All (SizedUse n) (lineOf (getD (linesFrom ls) k noLine))
+line-at n [] a k = (omega arith, tt)
+line-at n (us ∷ ls) a zero = (a .0 .few, rw (line-back us (a .0 .few)) (a .0 .uses))
+line-at n (us ∷ ls) a (suc k) = line-at n ls (a .1) k
+
+module _ {s : State} {l : List ℕ} (p : Parts s l) where
+  pub parts-state : stateOf (boardOf s l) ≡ s
+  parts-state = state-back s l (p .limits .jobs) (sized-few (total (s .jobs)) (s .lines) (p .limits .lines))
+
+  pub parts-shaped : Shaped (boardOf s l)
+  parts-shaped =
+      record {
+        jobs = length-padded 16 noJob (s .jobs);
+        lines = length-map (s .lines) lineFrom ∙ p .limits .sixteen;
+        gaps = p .cells;
+      }
+
+  pub parts-sound : Sound (boardOf s l)
+  unfolding liveCount
+  parts-sound =
+      let q = p .limits in
+      let back = jobs-back (s .jobs) (q .jobs) in
+      record {
+        horizon = q .horizon;
+        lead = q .lead;
+        clock = q .clock;
+        jobs = q .jobs;
+        sizes = rw back (q .sizes);
+        points = rw back (q .points);
+        lines = λ k h. line-at (total (s .jobs)) (s .lines) (q .lines) k .0;
+        uses = λ k h. rw back (line-at (total (s .jobs)) (s .lines) (q .lines) k .1);
+        sent-first = rw back (first-of (s .jobs) (q .sent-first));
+        sent-still = rw back (still-of l 1 (s .jobs) (p .still));
+        table = rw back (p .table);
+      }

@@ -1,0 +1,2 @@
+pub mod Abstract
+pub mod Timetables

@@ -1,0 +1,67 @@
+-- What demand 2 says of a board, in terms of timetables alone. Y is a set of timetables: those meant.
+--   Timetable b u       the timetable u keeps to the board b: the origin at 0, and every cell of two live points kept
+--   Some Y              there is one of Y
+--   LargestGap Y i j d  d is the largest time of j minus time of i over Y: attained, and never passed
+--   LeastTime Y x v     v is the least time of x over Y: attained, and never below
+--   Minimal Y b         the board's table is the gap table of Y: it allows exactly Y, each cell less the bias is the largest gap, each
+--                       earliest time the least, and the earliest times together are one of Y
+--   Decided b n Y a     a call with the answer a is accepted exactly when Y is not empty, and else refused with the number n
+--   In x xs             x is one of the points xs;  AtLeast b xs u: each of them is at its least time over the board's timetables
+--   SetLeast b xs a     a call with the answer a sets each of the points xs to its least time over the board's timetables
+use mathlib.Core.Path.{_≡_}
+use mathlib.Core.Logic.{_↔_, _⊎_}
+use mathlib.Core.List.{List, [], _∷_}
+use Prim.Native.Nat.{ℕ, _<_}
+use lib.IntN.{ℤ, pos, subℕ, _+ℤ_}
+use lib.Signed.{_≤ℤ_}
+use Rattle.rulings.specs.declared.Ruling.the-variants.{Accepted}
+use Rattle.plain.specs.Rules.{Times}
+use Rattle.stn.specs.Table.{bias, Fits, earliest, soonest}
+use Rattle.gaps.specs.Cells.{cell, tableOf}
+use Rattle.sound.specs.declared.Board.{Board}
+use Rattle.board.specs.declared.Ruled.{Ruled}
+use Rattle.board.specs.Calls.{refusal}
+use Rattle.agreement.specs.Abstract.{livePoints}
+
+abbrev pub Timetable : Board → Times → Type 0
+Timetable b u = (u 0 ≡ pos 0) × Fits (livePoints b) (tableOf (b .gaps)) u
+
+abbrev pub Some : (Times → Type 0) → Type 0
+Some Y = (u : Times) × Y u
+
+pub record LargestGap (Y : Times → Type 0) (i j : ℕ) (d : ℤ) : Type 0 where
+  pub attained : (u : Times) × Y u × (u j ≡ u i +ℤ d)
+  pub most : (u : Times) → Y u → u j ≤ℤ (u i +ℤ d)
+
+pub record LeastTime (Y : Times → Type 0) (x v : ℕ) : Type 0 where
+  pub attained : (u : Times) × Y u × (u x ≡ pos v)
+  pub least : (u : Times) → Y u → pos v ≤ℤ u x
+
+pub record Minimal (Y : Times → Type 0) (b : Board) : Type 0 where
+  pub same : (u : Times) → Timetable b u ↔ Y u
+  -- a cell holds its gap plus the bias
+  pub gaps : (i j : ℕ) → i < livePoints b → j < livePoints b → LargestGap Y i j (subℕ (cell (b .gaps) i j) bias)
+  pub earliests : (x : ℕ) → x < livePoints b → LeastTime Y x (earliest (tableOf (b .gaps)) x)
+  pub together : Y (soonest (tableOf (b .gaps)))
+
+pub record Decided (b : Board) (n : ℕ) (Y : Times → Type 0) (a : Ruled) : Type 0 where
+  pub accepted : (a .ruling ≡ Accepted) ↔ Some Y
+  pub refused : (a ≡ refusal b n) ↔ ¬ (Some Y)
+  pub either : (a .ruling ≡ Accepted) ⊎ (a ≡ refusal b n)
+  -- the board after an accepted call
+  pub table : a .ruling ≡ Accepted → Minimal Y (a .board)
+
+abbrev pub In : ℕ → List ℕ → Type 0
+In x [] = ⊥
+In x (y ∷ ys) = (x ≡ y) ⊎ In x ys
+
+abbrev pub AtLeast : Board → List ℕ → Times → Type 0
+AtLeast b xs u = (x v : ℕ) → In x xs → LeastTime (Timetable b) x v → u x ≡ pos v
+
+pub record SetLeast (b : Board) (xs : List ℕ) (a : Ruled) : Type 0 where
+  pub accepted : a .ruling ≡ Accepted
+  -- there is a timetable left
+  pub some : Some (Timetable (a .board))
+  -- each point stands at its least time of before the call, in all timetables after it
+  pub still : (x : ℕ) → In x xs → (v : ℕ) × LeastTime (Timetable b) x v × ((u : Times) → Timetable (a .board) u → u x ≡ pos v)
+  pub table : Minimal (λ u. Timetable b u × AtLeast b xs u) (a .board)

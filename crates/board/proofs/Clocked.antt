@@ -1,0 +1,127 @@
+-- Laws of the clock's call. Assumes nothing.
+--   starts-usable    the clock's rules name live points, and their numbers keep sums within 32 bits
+--   rules-are, rules-few, rules-usable   the rules that the code collects, on a sound board with a clock in range
+--   unsound, back, past, none-left, moved   the answer, case by case
+use Prim.Native.Nat.{ℕ, zero, suc, _+_, _≤_, _<_}
+use native.Mathlib.Omega.{arith}
+use mathlib.Core.Path.{_≡_, refl, sym, ap, ap₂, subst, _∙_}
+use mathlib.Core.Bool.{Bool, true, false, cond}
+use mathlib.Core.List.{List, [], _∷_, _++_}
+use lib.ListN.{length, getD, length-take}
+use lib.Dec.{ltb}
+use borrow.Author.Tests.{le-leb, lt-leb, ltb-true, ltb-false}
+use Rattle.rulings.specs.declared.Ruling.the-variants.{Accepted}
+use Rattle.plain.specs.declared.Job.{Job}
+use Rattle.lines.specs.declared.Jobs.{Jobs}
+use Rattle.lines.specs.declared.Line.{Line}
+use Rattle.plain.specs.declared.Rule.{Rule}
+use Rattle.lines.specs.declared.rulelist.Rules.{Rules}
+use Rattle.plain.specs.Plain
+use Rattle.plain.specs.Plain.{total, notBefore, starts}
+use Rattle.lines.specs.Held.{jobsOf, jobsFrom, linesOf, linesFrom, rulesOf, rulesFrom, noRule, noLine}
+use Rattle.lines.specs.Asked.{Sized}
+use Rattle.lines.proofs.Padded.{take-padded}
+use Rattle.stn.specs.Table.{Closed}
+use Rattle.gaps.specs.Cells.{tableOf, Usable}
+use Rattle.gaps.proofs.GapTable.{gapTable-closed}
+use Rattle.sound.specs.declared.Board.{Board}
+use Rattle.board.proofs.OnSound.{rules-back}
+use Rattle.board.specs.Boards.{stateOf}
+use Rattle.lists.specs.All.{All}
+use Rattle.sound.specs.Sound.{SizedJob, Sound, sound}
+use Rattle.settling.specs.Settled.{AllUsable, addedAll, outcome}
+use Rattle.board.specs.Calls.{refusal, settled, clocked}
+
+-- ---- the rules
+
+not-before-usable : (n x p : ℕ) → x < n → p ≤ 102000000 → Usable n (notBefore x p)
+unfolding notBefore
+not-before-usable n x p h b = record { early-live = omega arith; late-live = h; few-more = b; few-slack = omega arith }
+
+pub starts-usable :
+    (n p : ℕ) (js : List Job) (x : ℕ) → All SizedJob js → 0 < x → x + total js ≤ n → p ≤ 102000000 → AllUsable n (starts p x js)
+unfolding starts total
+starts-usable n p [] x a h l b = tt
+starts-usable n p (j ∷ js) x a h l b =
+    let two = a .0 .least in
+    go (j .sent) (not-before-usable n x p (omega (arith, two)) b) (starts-usable n p js (x + j .points) (a .1) (omega arith) (omega arith) b)
+  where
+    go :
+        (s : Bool) → Usable n (notBefore x p) → AllUsable n (starts p (x + j .points) js)
+        → AllUsable n (cond s [] (notBefore x p ∷ []) ++ starts p (x + j .points) js)
+    go true here rest = rest
+    go false here rest = (here, rest)
+
+few-starts : (p : ℕ) (js : List Job) (x : ℕ) → length (starts p x js) ≤ length js
+unfolding starts
+few-starts p [] x = omega arith
+few-starts p (j ∷ js) x = go (j .sent) (few-starts p js (x + j .points))
+  where
+    go :
+        (s : Bool) → length (starts p (x + j .points) js) ≤ length js
+        → length (cond s [] (notBefore x p ∷ []) ++ starts p (x + j .points) js) ≤ suc (length js)
+    go true h = omega arith
+    go false h = omega arith
+
+-- ---- on a sound board
+
+module _ (b : Board) (s : Sound b) where
+  module _ (c : ℕ) (within : c ≤ b .horizon) (rules : Rules) (er : rules ≡ rulesFrom (starts (c + b .lead) 1 (jobsOf (b .jobs)))) where
+    few : length (starts (c + b .lead) 1 (jobsOf (b .jobs))) ≤ 16
+    few =
+        let h = few-starts (c + b .lead) (jobsOf (b .jobs)) 1 in
+        let n = length-jobs in
+        let k = s .jobs in
+        omega (arith, h, n, k)
+      where
+        length-jobs : length (jobsOf (b .jobs)) ≤ b .jobs .count
+        length-jobs = omega (arith, length-take (b .jobs .count) (b .jobs .jobs))
+
+    pub rules-are : rulesOf rules ≡ starts (c + b .lead) 1 (jobsOf (b .jobs))
+    rules-are = ap rulesOf er ∙ rules-back _ (let f = few in omega (arith, f))
+
+    pub rules-few : rules .count ≤ 82
+    rules-few = let e = ap (λ (x : Rules). x .count) er in let f = few in omega (arith, e, f)
+
+    pub rules-usable : AllUsable (suc (total (jobsOf (b .jobs)))) (rulesOf rules)
+    rules-usable =
+        let h = s .horizon .1 in
+        let d = s .lead in
+        subst (AllUsable _) (sym rules-are) (starts-usable _ (c + b .lead) (jobsOf (b .jobs)) 1 (s .sizes) (omega arith) (omega arith) (omega (arith, h, d)))
+
+-- ---- the answer
+
+module _ (b : Board) (c : ℕ) where
+  pub unsound : sound b ≡ false → refusal b 6 ≡ clocked b c
+  unfolding clocked
+  unsound e = rw e
+
+  module _ (e : sound b ≡ true) where
+    pub back : c < b .clock → refusal b 19 ≡ clocked b c
+    unfolding clocked Plain.clockOk
+    back h = rw (e, lt-leb _ _ h)
+
+    pub past : b .clock ≤ c → b .horizon < c → refusal b 19 ≡ clocked b c
+    unfolding clocked Plain.clockOk
+    past h l = rw (e, le-leb _ _ h, lt-leb _ _ l)
+
+    module _
+        (later : b .clock ≤ c) (within : c ≤ b .horizon) (rs : List Rule) (n : ℕ) (ok : Bool) (cells : List ℕ)
+        (er : rs ≡ starts (c + b .lead) 1 (jobsOf (b .jobs))) (en : n ≡ suc (total (jobsOf (b .jobs))))
+        (eo : outcome ok cells ≡ addedAll rs n (b .gaps))
+      where
+        tried : settled b 20 (Plain.clockState (stateOf b) c) (outcome ok cells) ≡ clocked b c
+        unfolding clocked Plain.clockOk Plain.liveCount
+        tried = ap (settled b 20 (Plain.clockState (stateOf b) c)) (eo ∙ ap₂ (λ (x : List Rule) (m : ℕ). addedAll x m (b .gaps)) er en) ∙ sym (rw (e, le-leb _ _ later, le-leb _ _ within))
+
+        pub none-left : ok ≡ false → refusal b 20 ≡ clocked b c
+        unfolding settled outcome
+        none-left f = subst (λ (x : Bool). settled b 20 (Plain.clockState (stateOf b) c) (outcome x cells) ≡ clocked b c) f tried
+
+        pub moved :
+            (jobs : Jobs) (lines : List Line) → ok ≡ true → jobs ≡ jobsFrom (jobsOf (b .jobs)) → lines ≡ linesFrom (linesOf (b .lines))
+            → record { ruling = Accepted; board = record { horizon = b .horizon; lead = b .lead; clock = c; jobs = jobs; lines = lines; gaps = cells } } ≡ clocked b c
+        unfolding settled outcome Plain.clockState
+        moved jobs lines t ej el =
+            ap₂ (λ (x : Jobs) (y : List Line). record { ruling = Accepted; board = record { horizon = b .horizon; lead = b .lead; clock = c; jobs = x; lines = y; gaps = cells } }) ej el
+            ∙ subst (λ (x : Bool). settled b 20 (Plain.clockState (stateOf b) c) (outcome x cells) ≡ clocked b c) t tried

@@ -1,0 +1,112 @@
+-- A fresh board is sound where its settings are in range, and the board of a refused fresh is not.
+--   zero-unsound     the zero board fails the test: its horizon is 0
+--   fresh-origin, fresh-elsewhere, fresh-live   the cells of a fresh table: a gap of 0 at the origin, 0 everywhere else
+--   fresh-table      it is a good table of one point;  fresh-sound: the fresh board is sound;  fresh-passes: so it passes the test
+use Prim.Native.Nat.{ℕ, zero, suc, _+_, _*_, _≤_, _<_}
+use mathlib.Core.Path.{_≡_, refl, sym, _∙_, ap}
+use mathlib.Core.Logic.{_⊎_, inl, inr}
+use mathlib.Core.Bool.{Bool, true, false, false≢true, _||_}
+use mathlib.Core.List.{List, [], _∷_}
+use native.Mathlib.Omega.{arith}
+use lib.ListN.{getD, set, replicate}
+use lib.Dec.{ltb}
+use borrow.Author.Tests.{ltb-false}
+use Rattle.plain.specs.Plain.{total}
+use Rattle.lines.specs.Held.{lineOf, linesFrom, noLine}
+use Rattle.stn.specs.Table.{bias}
+use Rattle.rulebook.specs.Book.{emptyLines, fresh}
+use Rattle.gaps.specs.Cells.{cell}
+use Rattle.gaps.specs.GapTable.{GapTable}
+use Rattle.board.specs.declared.Settings.{Settings}
+use Rattle.board.specs.Boards.{badSettings, zeroCells, freshCells, freshBoard, zeroBoard}
+use Rattle.lists.specs.All.{All}
+use Rattle.sound.specs.Sound.{SizedUse, Sound, sound}
+use Rattle.sound.proofs.Soundness.{sound-of}
+
+pub zero-unsound : sound zeroBoard ≡ false
+unfolding sound zeroBoard fresh
+zero-unsound = refl
+
+-- ---- the table of the origin alone
+
+zeros-at : (n k : ℕ) → _≡_ {A = ℕ} (getD (replicate n 0) k 0) 0
+zeros-at zero k = refl
+zeros-at (suc n) zero = refl
+zeros-at (suc n) (suc k) = zeros-at n k
+
+first-set : (n v : ℕ) → 0 < n → getD (set (replicate n 0) 0 v) 0 0 ≡ v
+first-set zero v h = absurd (omega arith)
+first-set (suc n) v h = refl
+
+others-set : (n v k : ℕ) → 0 < k → getD (set (replicate n 0) 0 v) k 0 ≡ 0
+others-set zero v k h = refl
+others-set (suc n) v zero h = absurd (omega arith)
+others-set (suc n) v (suc k) h = zeros-at n k
+
+fresh-origin : getD freshCells 0 0 ≡ bias
+unfolding freshCells zeroCells
+fresh-origin = first-set 4225 bias (omega arith)
+
+fresh-elsewhere : (k : ℕ) → 0 < k → getD freshCells k 0 ≡ 0
+unfolding freshCells zeroCells
+fresh-elsewhere k h = others-set 4225 bias k h
+
+fresh-live : (i j : ℕ) → i < 1 → j < 1 → cell freshCells i j ≡ bias
+fresh-live i j hi hj = let first : i * 65 + j ≡ 0 = omega arith in ap (λ (k : ℕ). getD freshCells k 0) first ∙ fresh-origin
+
+pub fresh-table : (H : ℕ) → GapTable freshCells 1 H
+fresh-table H =
+    record {
+      bounded = λ i j hi hj. omega (arith, fresh-live i j hi hj);
+      rest = λ i j hi hj past. fresh-elsewhere (i * 65 + j) (beyond i j past);
+      diagonal = λ i hi. fresh-live i i hi hi;
+      triangle = λ i j k hi hj hk. omega (arith, fresh-live i k hi hk, fresh-live i j hi hj, fresh-live j k hj hk);
+      floor = λ i hi. omega (arith, fresh-live i 0 hi (omega arith));
+      roof = λ i hi. omega (arith, fresh-live 0 i (omega arith) hi);
+    }
+  where
+    beyond : (i j : ℕ) → 1 ≤ i ⊎ 1 ≤ j → 0 < i * 65 + j
+    beyond i j (inl h) = omega arith
+    beyond i j (inr h) = omega arith
+
+-- ---- the board
+
+either-false : (a b : Bool) → (a || b) ≡ false → (a ≡ false) × (b ≡ false)
+either-false true b h = absurd (false≢true (sym h))
+either-false false b h = (refl, h)
+
+empty-count : (n k : ℕ) → getD (linesFrom (emptyLines n)) k noLine .count ≡ 0
+unfolding emptyLines
+empty-count zero k = refl
+empty-count (suc n) zero = refl
+empty-count (suc n) (suc k) = empty-count n k
+
+empty-uses : (P : ℕ) (n k : ℕ) → All (SizedUse P) (lineOf (getD (linesFrom (emptyLines n)) k noLine))
+unfolding emptyLines
+empty-uses P zero k = tt
+empty-uses P (suc n) zero = tt
+empty-uses P (suc n) (suc k) = empty-uses P n k
+
+module _ (s : Settings) (good : badSettings s ≡ false) where
+  pub fresh-sound : Sound (freshBoard s)
+  unfolding badSettings freshBoard fresh total
+  fresh-sound =
+      let p = either-false (ltb (s .horizon) 1) (ltb 100000000 (s .horizon) || ltb 1000000 (s .lead)) good in
+      let q = either-false (ltb 100000000 (s .horizon)) (ltb 1000000 (s .lead)) (p .1) in
+      record {
+        horizon = (ltb-false (s .horizon) 1 (p .0), ltb-false 100000000 (s .horizon) (q .0));
+        lead = ltb-false 1000000 (s .lead) (q .1);
+        clock = omega arith;
+        jobs = omega arith;
+        sizes = tt;
+        points = omega arith;
+        lines = λ k lt. omega (arith, empty-count 16 k);
+        uses = λ k lt. empty-uses 0 16 k;
+        sent-first = tt;
+        sent-still = tt;
+        table = fresh-table (s .horizon);
+      }
+
+  pub fresh-passes : sound (freshBoard s) ≡ true
+  unfolding freshBoard fresh emptyLines
+  fresh-passes = sound-of (freshBoard s) refl fresh-sound

@@ -1,0 +1,89 @@
+-- What a sound board gives the code of its calls. Assumes nothing.
+--   rules-back    the rules held in the array, read back
+--   sized         the jobs are as many as the walks of them ask
+--   lines-small   no line holds more than 32;  lined: and each use is short
+--   fitting       the lines as the plain machine has them: each use fits the live points
+--   closed        the table is closed
+use Prim.Native.Nat.{ℕ, zero, suc, _≤_, _<_}
+use native.Mathlib.Omega.{arith}
+use native.Mathlib.Decide.{decLt}
+use mathlib.Core.Path.{_≡_, refl, ap}
+use mathlib.Core.Bool.{Bool, true, false}
+use mathlib.Core.List.{List, [], _∷_, map}
+use lib.ListN.{length, getD, List·getD-eq-default}
+use lib.Dec.{ltb}
+use borrow.Author.Tests.{ltb-true, ltb-false}
+use Rattle.plain.specs.declared.Rule.{Rule}
+use Rattle.plain.specs.declared.Use.{Use}
+use Rattle.plain.specs.Plain.{noUse, total}
+use Rattle.lines.specs.declared.Line.{Line}
+use Rattle.lines.specs.Held.{jobsOf, lineOf, linesOf, rulesOf, rulesFrom, noRule, noLine}
+use Rattle.lines.specs.Asked.{Sized, Short, AllShort, Lined}
+use Rattle.lines.proofs.Lists.{map-at}
+use Rattle.lines.proofs.Padded.{take-padded}
+use Rattle.stn.specs.Table.{Closed}
+use Rattle.gaps.specs.Cells.{tableOf}
+use Rattle.gaps.proofs.GapTable.{gapTable-closed}
+use Rattle.sound.specs.declared.Board.{Board}
+use Rattle.sound.specs.Sound.{pointsOf, SizedUse, Sound}
+use Rattle.lists.specs.All.{All}
+use Rattle.lists.proofs.All.{all-at, all-from, all-map}
+use Rattle.board.proofs.Drafts.{Fits}
+
+pub rules-back : (l : List Rule) → length l ≤ 82 → rulesOf (rulesFrom l) ≡ l
+rules-back l h = take-padded 82 noRule l h
+
+past-end : (l : List Line) (k : ℕ) → length l ≤ k → getD l k noLine ≡ noLine
+past-end [] k h = refl
+past-end (x ∷ l) zero h = absurd (omega arith)
+past-end (x ∷ l) (suc k) h = past-end l k (omega arith)
+
+module _ (b : Board) (s : Sound b) where
+  pub sized : Sized (b .jobs)
+  sized = record { count = s .jobs; points = s .points }
+
+  pub lines-small : length (b .lines) ≡ 16 → (k : ℕ) → getD (b .lines) k noLine .count ≤ 32
+  lines-small e k = go (ltb k 16) refl
+    where
+      go : (x : Bool) → ltb k 16 ≡ x → getD (b .lines) k noLine .count ≤ 32
+      go true q = s .lines k (ltb-true k 16 q)
+      go false q = let far = ltb-false k 16 q in rw (past-end (b .lines) k (omega (arith, e, far))) (omega arith)
+
+  pub closed : Closed (suc (total (jobsOf (b .jobs)))) (tableOf (b .gaps))
+  closed = gapTable-closed (s .table)
+
+  -- the line of a resource, as the plain machine has it
+  line-is : length (b .lines) ≡ 16 → (k : ℕ) → k < 16 → getD (linesOf (b .lines)) k [] ≡ lineOf (getD (b .lines) k noLine)
+  line-is e k h = map-at lineOf (b .lines) k noLine [] (omega arith)
+
+  length-lines : length (linesOf (b .lines)) ≡ length (b .lines)
+  length-lines = go (b .lines)
+    where
+      go : (l : List Line) → length (map lineOf l) ≡ length l
+      go [] = refl
+      go (x ∷ l) = ap suc (go l)
+
+  pub fitting : length (b .lines) ≡ 16 → All (All (Fits (suc (pointsOf b)))) (linesOf (b .lines))
+  fitting e =
+      all-from (All (Fits (suc (pointsOf b)))) (linesOf (b .lines)) []
+      (λ k h. let lt : k < 16 = omega (arith, h, e, length-lines) in
+      rw (line-is e k lt)
+      (all-map (SizedUse (pointsOf b)) (Fits (suc (pointsOf b)))
+      (λ u s. record { point = omega (arith, s .live); offset = s .offset; length = s .length })
+      (lineOf (getD (b .lines) k noLine)) (s .uses k lt)))
+
+  short-of : (P : ℕ) (us : List Use) → All (SizedUse P) us → AllShort us
+  short-of P us a k = go (decLt k (length us))
+    where
+      go : Dec (k < length us) → Short (getD us k noUse)
+      go (yes h) = let s = all-at (SizedUse P) us noUse a k h in record { offset = s .offset; length = s .length }
+      go (no h) = rw (List·getD-eq-default us noUse {n = k} (omega arith)) (record { offset = omega arith; length = omega arith })
+
+  pub lined : length (b .lines) ≡ 16 → Lined (b .lines)
+  lined e = record { counts = lines-small e; short = λ i. go i (decLt i 16) }
+    where
+      go : (i : ℕ) → Dec (i < 16) → AllShort (getD (linesOf (b .lines)) i [])
+      go i (yes h) = rw (line-is e i h) (short-of (pointsOf b) (lineOf (getD (b .lines) i noLine)) (s .uses i h))
+      go i (no h) =
+          rw (List·getD-eq-default (linesOf (b .lines)) [] {n = i} (omega (arith, e, length-lines)))
+          (λ k. record { offset = omega arith; length = omega arith })

@@ -1,0 +1,58 @@
+-- The board and what it holds.
+--   stateOf b      the plain machine's state that a board holds: jobs, lines, clock, horizon and lead
+--   boardOf s l    the board of a state and a list of cells, with 0 in every place not in use
+--   freshCells     the table of the origin alone
+--   settings H D   5: H or D is out of range
+--   freshBoard     a fresh board;  zeroBoard: the board of a refused fresh
+--   freshRuled     the answer to fresh
+use Prim.Native.Nat.{ℕ}
+use mathlib.Core.Bool.{Bool, cond, _||_}
+use mathlib.Core.List.{List, []}
+use lib.ListN.{set, replicate}
+use lib.Dec.{ltb}
+use Rattle.rulings.specs.declared.Ruling.the-variants.{Accepted}
+use Rattle.rulings.specs.Answer.{refuse}
+use Rattle.plain.specs.Plain
+use Rattle.lines.specs.Held as Held
+use Rattle.stn.specs.Table.{bias}
+use Rattle.rulebook.specs.Book as Rulebook
+use Rattle.board.specs.declared.Settings.{Settings}
+use Rattle.sound.specs.declared.Board.{Board}
+use Rattle.board.specs.declared.Ruled.{Ruled}
+
+abbrev pub stateOf : Board → Plain.State
+stateOf b = Held.stateOf (b .jobs) (b .lines) (b .clock) (b .horizon) (b .lead)
+
+abbrev pub boardOf : Plain.State → List ℕ → Board
+boardOf s l =
+    record {
+      horizon = s .horizon;
+      lead = s .lead;
+      clock = s .clock;
+      jobs = Held.jobsFrom (s .jobs);
+      lines = Held.linesFrom (s .lines);
+      gaps = l;
+    }
+
+-- "a horizon H (1 to 100,000,000), a lead D (0 to 1,000,000)": 5 where one is out of range
+unfoldable pub badSettings : Settings → Bool
+badSettings s = ltb (s .horizon) 1 || (ltb 100000000 (s .horizon) || ltb 1000000 (s .lead))
+
+unfoldable pub zeroCells : List ℕ
+zeroCells = replicate 4225 0
+
+-- "clock 0 and one point, the origin, numbered 0": its cell with itself is a gap of 0
+unfoldable pub freshCells : List ℕ
+freshCells = set zeroCells 0 bias
+
+unfoldable pub freshBoard : Settings → Board
+freshBoard s = boardOf (Rulebook.fresh (s .horizon) (s .lead) .state) freshCells
+
+-- "the board given is then all zeros, which isn't sound and is no fresh board"
+unfoldable pub zeroBoard : Board
+zeroBoard = boardOf (Rulebook.fresh 0 0 .state) zeroCells
+
+unfoldable pub freshRuled : Settings → Ruled
+freshRuled s =
+    cond (badSettings s) (record { ruling = refuse 5; board = zeroBoard })
+    (record { ruling = Accepted; board = freshBoard s })

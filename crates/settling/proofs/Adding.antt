@@ -1,0 +1,72 @@
+-- Laws of rules added one after the other to a closed table. Assumes nothing.
+--   Adding l n rs t left   the table t comes of l by adding rules of rs, and `left` are left to add
+--   begins, stops, goes-on, ends   one law for each place of the loop
+--   usable-wide    a usable rule is usable among more points
+use Prim.Native.Nat.{ℕ, _+_, _≤_}
+use native.Mathlib.Omega.{arith}
+use mathlib.Core.Path.{_≡_, refl, sym, subst, _∙_}
+use mathlib.Core.Bool.{true, false}
+use mathlib.Core.List.{List, [], _∷_}
+use lib.ListN.{length}
+use lib.Dec.{leb}
+use borrow.Author.Tests.{leb-true}
+use Rattle.plain.specs.declared.Rule.{Rule}
+use Rattle.stn.specs.Table.{bias, Closed, Agrees}
+use Rattle.gaps.specs.Cells.{cell, tableOf, added, Usable}
+use Rattle.gaps.proofs.Added.{added-length, added-closed}
+use Rattle.settling.specs.Settled.{AllUsable, addedAll, outcome}
+
+pub usable-wide : (n m : ℕ) (r : Rule) → n ≤ m → Usable n r → Usable m r
+usable-wide n m r le u =
+    record { early-live = omega (arith, u .early-live); late-live = omega (arith, u .late-live); few-more = u .few-more; few-slack = u .few-slack }
+
+pub record Adding (l : List ℕ) (n : ℕ) (rs : List Rule) (t : List ℕ) (left : List Rule) : Type 0 where
+  pub cells : length t ≡ 4225
+  -- so the next rule is looked up and added rightly
+  pub closed : Closed n (tableOf t)
+  pub usable : AllUsable n left
+  -- adding what is left comes to what adding all comes to
+  pub same : addedAll left n t ≡ addedAll rs n l
+
+pub begins : (l : List ℕ) (n : ℕ) (rs : List Rule) → length l ≡ 4225 → Closed n (tableOf l) → AllUsable n rs → Adding l n rs l rs
+begins l n rs e c u = record { cells = e; closed = c; usable = u; same = refl }
+
+module _ {l : List ℕ} {n : ℕ} {rs : List Rule} {t : List ℕ} {left : List Rule} (s : Adding l n rs t left) where
+  pub ends : left ≡ [] → outcome true t ≡ addedAll rs n l
+  unfolding addedAll outcome
+  ends e = subst (λ (x : List Rule). addedAll x n t ≡ addedAll rs n l) e (s .same)
+
+  module _ (r : Rule) (rest : List Rule) (e : left ≡ r ∷ rest) where
+    all-usable : AllUsable n (r ∷ rest)
+    all-usable = subst (AllUsable n) e (s .usable)
+
+    pub usable-here : Usable n r
+    usable-here = all-usable .0
+
+    -- what looking the rule up asks
+    pub looked-up : n ≤ 65 → Usable 65 r × (cell t (r .early) (r .late) ≤ bias + bias)
+    looked-up h =
+        let u = usable-here in
+        (usable-wide n 65 r h u, s .closed .bounded (r .early) (r .late) (u .early-live) (u .late-live))
+
+    same-here : addedAll (r ∷ rest) n t ≡ addedAll rs n l
+    same-here = subst (λ (x : List Rule). addedAll x n t ≡ addedAll rs n l) e (s .same)
+
+    pub stops : (m : List ℕ) → leb (bias + r .more) (r .slack + cell t (r .early) (r .late)) ≡ false → outcome false m ≡ addedAll rs n l
+    unfolding addedAll outcome
+    stops m f = sym (rw (addedAll, f)) ∙ same-here
+
+    pub agree : leb (bias + r .more) (r .slack + cell t (r .early) (r .late)) ≡ true → Agrees r (tableOf t)
+    unfolding Agrees
+    agree f = leb-true _ _ f
+
+    pub goes-on : n ≤ 65 → (m : List ℕ) → leb (bias + r .more) (r .slack + cell t (r .early) (r .late)) ≡ true → m ≡ added t n r → Adding l n rs m rest
+    unfolding addedAll
+    goes-on h m f q =
+        subst (λ (x : List ℕ). Adding l n rs x rest) (sym q)
+        (record {
+          cells = added-length t n r (s .cells) h;
+          closed = added-closed t n r (s .cells) h (s .closed) (usable-here .early-live) (usable-here .late-live) (agree f);
+          usable = all-usable .1;
+          same = sym (rw (addedAll, f)) ∙ same-here;
+        })

@@ -1,0 +1,76 @@
+// Rules settled on a gap table: tried one after the other, or points set to their earliest times.
+mod freezing; // points set equal to their earliest times
+
+pub use freezing::freeze;
+use gaps::add;
+use gaps::agrees;
+use gaps::grow;
+use gaps::implies;
+use lines::Rules;
+use plain::Rule;
+ghost use mathlib.Core.Path.{_≡_};
+ghost use Prim.Native.Nat.{_+_, _≤_, _<_};
+ghost use lib.ListN.{length};
+ghost use Rattle.lines.specs.Held.{rulesOf};
+ghost use Rattle.stn.specs.Table.{bias, Closed, Agrees};
+ghost use Rattle.gaps.specs.Cells.{tableOf, added, grown, Usable};
+ghost use Rattle.settling.specs.Settled.{AllUsable, addedAll, outcome};
+
+// A table, and whether all rules could be added to it.
+pub struct Tried {
+    pub ok: bool,
+    pub gaps: [u32; 4225],
+}
+
+// The rule added to a table of n points that it agrees with. A rule that every timetable keeps already changes no cell.
+fn add_new(t: &mut [u32], n: usize, rule: Rule)
+    requires { ⌜ (length (now t) ≡ 4225) × (n ≤ 65) × Usable n rule ⌝ }
+    requires { ⌜ Closed n (tableOf (now t)) × Agrees rule (tableOf (now t)) ⌝ }
+    ensures { λ _. ⌜ now (t .exit) ≡ added (now (t .entry)) n rule ⌝ }
+{
+    if implies(t, rule) {
+        return;
+    }
+    add(t, n, rule);
+}
+
+// The rules added one after the other to a table of n points, up to the first that does not agree with those before it.
+fn add_all(t: &mut [u32], n: usize, rules: Rules) -> bool
+    requires { ⌜ (length (now t) ≡ 4225) × (n ≤ 65) × Closed n (tableOf (now t)) ⌝ }
+    requires { ⌜ (rules .count ≤ 82) × AllUsable n (rulesOf rules) ⌝ }
+    ensures { λ r. ⌜ outcome r (now (t .exit)) ≡ addedAll (rulesOf rules) n (now (t .entry)) ⌝ }
+{
+    let mut k = 0;
+    while k < rules.count {
+        let rule = rules.rules[k];
+        if !agrees(t, rule) {
+            return false;
+        }
+        add_new(t, n, rule);
+        k += 1;
+    }
+    true
+}
+
+// The same on a copy of the table.
+pub fn try_rules(gaps: [u32; 4225], n: usize, rules: Rules) -> Tried
+    requires { ⌜ (n ≤ 65) × Closed n (tableOf gaps) ⌝ }
+    requires { ⌜ (rules .count ≤ 82) × AllUsable n (rulesOf rules) ⌝ }
+    ensures { λ r. ⌜ outcome (r .ok) (r .gaps) ≡ addedAll (rulesOf rules) n gaps ⌝ }
+{
+    let mut next = gaps;
+    let ok = add_all(&mut next, n, rules);
+    Tried { ok, gaps: next }
+}
+
+// The same with m new points first, each from 0 to `most`.
+pub fn try_grown(gaps: [u32; 4225], n: usize, m: usize, most: u32, rules: Rules) -> Tried
+    requires { ⌜ (0 < n) × (n + m ≤ 65) × (most ≤ bias) × Closed n (tableOf gaps) ⌝ }
+    requires { ⌜ (rules .count ≤ 82) × AllUsable (n + m) (rulesOf rules) ⌝ }
+    ensures { λ r. ⌜ outcome (r .ok) (r .gaps) ≡ addedAll (rulesOf rules) (n + m) (grown gaps n m most) ⌝ }
+{
+    let mut next = gaps;
+    grow(&mut next, n, m, most);
+    let ok = add_all(&mut next, n + m, rules);
+    Tried { ok, gaps: next }
+}

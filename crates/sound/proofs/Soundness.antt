@@ -1,0 +1,270 @@
+-- The test of a board is true exactly where document 01 calls the board sound.
+--   numbers-to, numbers-of   horizon, lead and clock;  jobs-to, jobs-of: the jobs' sizes;  jobs-sized: what the walks of the jobs ask
+--   all-to, all-of           a list whose elements are tested one by one
+--   first-to, first-of       sent jobs come first
+--   still-to, still-of       the points of sent jobs stand still
+--   sound-to, sound-of       the whole board;  sound-is: both ways
+-- A law that ends in -to goes from the test to the definition, one that ends in -of back.
+use Prim.Native.Nat.{ℕ, zero, suc, _+_, _-_, _≤_, _<_}
+use mathlib.Core.Path.{_≡_, refl, sym, _∙_}
+use mathlib.Core.Logic.{_↔_}
+use mathlib.Core.Bool.{Bool, true, false, false≢true, not, _&&_, _||_}
+use mathlib.Core.List.{List, [], _∷_}
+use native.Mathlib.Omega.{arith}
+use lib.ListN.{length, getD}
+use lib.Dec.{leb, eqb}
+use borrow.Author.Tests.{leb-true, le-leb, eqb-true, eq-eqb, not-true}
+use Rattle.plain.specs.declared.Job.{Job}
+use Rattle.lines.specs.declared.Jobs.{Jobs}
+use Rattle.plain.specs.declared.Use.{Use}
+use Rattle.lines.specs.declared.Line.{Line}
+use Rattle.plain.specs.Plain.{total}
+use Rattle.lines.specs.Held.{jobsOf, lineOf, noLine}
+use Rattle.lines.specs.Asked.{Sized}
+use Rattle.lists.specs.All.{All}
+use Rattle.lists.proofs.All.{all-at, all-from}
+use Rattle.lists.proofs.AllBelow.{both-true, allBelow-to, allBelow-of}
+use Rattle.stn.specs.Table.{bias}
+use Rattle.gaps.specs.Cells.{cell}
+use Rattle.gaps.specs.GapTable.{isGapTable}
+use Rattle.gaps.proofs.GapTable.{gapTable-to, gapTable-of}
+use Rattle.sound.specs.declared.Board.{Board}
+use Rattle.sound.specs.Sound.{
+  SizedJob,
+  SizedUse,
+  NoneSent,
+  SentFirst,
+  StillSent,
+  pointsOf,
+  Sound,
+  allOf,
+  sizedNumbers,
+  sizedJob,
+  sizedJobs,
+  sizedUse,
+  sizedLine,
+  sentFrom,
+  standStill,
+  stillJob,
+  stillSent,
+  sound,
+}
+
+-- ---- lists
+
+module _ {A : Type 0} (P : A → Type 0) where
+  all-to : (f : A → Bool) → ((a : A) → f a ≡ true → P a) → (l : List A) → allOf f l ≡ true → All P l
+  all-to f h [] e = tt
+  all-to f h (a ∷ l) e = let p = both-true (f a) (allOf f l) e in (h a (p .0), all-to f h l (p .1))
+
+  all-of : (f : A → Bool) → ((a : A) → P a → f a ≡ true) → (l : List A) → All P l → allOf f l ≡ true
+  all-of f h [] p = refl
+  all-of f h (a ∷ l) p = rw (h a (p .0)) (all-of f h l (p .1))
+
+-- ---- numbers and jobs
+
+module _ (H D c : ℕ) where
+  pub numbers-to : sizedNumbers H D c ≡ true → ((1 ≤ H) × (H ≤ 100000000)) × (D ≤ 1000000) × (c ≤ H)
+  numbers-to h =
+      let p = both-true (leb 1 H && leb H 100000000 && leb D 1000000) (leb c H) h in
+      let q = both-true (leb 1 H && leb H 100000000) (leb D 1000000) (p .0) in
+      let r = both-true (leb 1 H) (leb H 100000000) (q .0) in
+      ((leb-true 1 H (r .0), leb-true H 100000000 (r .1)), leb-true D 1000000 (q .1), leb-true c H (p .1))
+
+  numbers-of : (1 ≤ H) × (H ≤ 100000000) → D ≤ 1000000 → c ≤ H → sizedNumbers H D c ≡ true
+  numbers-of h d e = rw (le-leb 1 H (h .0), le-leb H 100000000 (h .1), le-leb D 1000000 d, le-leb c H e)
+
+job-to : (j : Job) → sizedJob j ≡ true → SizedJob j
+job-to j h =
+    let p = both-true (leb 2 (j .points)) (leb (j .points) 9) h in
+    record { least = leb-true 2 (j .points) (p .0); most = leb-true (j .points) 9 (p .1) }
+
+job-of : (j : Job) → SizedJob j → sizedJob j ≡ true
+job-of j s = rw (le-leb 2 (j .points) (s .least), le-leb (j .points) 9 (s .most))
+
+module _ (jobs : Jobs) where
+  jobs-to : sizedJobs jobs ≡ true → (jobs .count ≤ 16) × All SizedJob (jobsOf jobs) × (total (jobsOf jobs) ≤ 64)
+  unfolding sizedJobs
+  jobs-to h =
+      let few = leb (total (jobsOf jobs)) 64 in
+      let p = both-true (leb (jobs .count) 16) (allOf sizedJob (jobsOf jobs) && few) h in
+      let q = both-true (allOf sizedJob (jobsOf jobs)) few (p .1) in
+      (leb-true (jobs .count) 16 (p .0), all-to SizedJob sizedJob job-to (jobsOf jobs) (q .0), leb-true (total (jobsOf jobs)) 64 (q .1))
+
+  jobs-of : jobs .count ≤ 16 → All SizedJob (jobsOf jobs) → total (jobsOf jobs) ≤ 64 → sizedJobs jobs ≡ true
+  unfolding sizedJobs
+  jobs-of h s few =
+      rw (le-leb (jobs .count) 16 h, all-of SizedJob sizedJob job-of (jobsOf jobs) s, le-leb (total (jobsOf jobs)) 64 few)
+
+  pub jobs-sized : sizedJobs jobs ≡ true → Sized jobs
+  jobs-sized h = record { count = jobs-to h .0; points = jobs-to h .2 }
+
+-- ---- lines
+
+module _ (n : ℕ) where
+  use-to : (u : Use) → sizedUse n u ≡ true → SizedUse n u
+  use-to u h =
+      let p = both-true (leb 1 (u .point) && leb (u .point) n && leb (u .offset) 1000000 && leb 1 (u .length)) (leb (u .length) 1000000) h in
+      let q = both-true (leb 1 (u .point) && leb (u .point) n && leb (u .offset) 1000000) (leb 1 (u .length)) (p .0) in
+      let r = both-true (leb 1 (u .point) && leb (u .point) n) (leb (u .offset) 1000000) (q .0) in
+      let s = both-true (leb 1 (u .point)) (leb (u .point) n) (r .0) in
+      record {
+        not-origin = leb-true 1 (u .point) (s .0);
+        live = leb-true (u .point) n (s .1);
+        offset = leb-true (u .offset) 1000000 (r .1);
+        some = leb-true 1 (u .length) (q .1);
+        length = leb-true (u .length) 1000000 (p .1);
+      }
+
+  use-of : (u : Use) → SizedUse n u → sizedUse n u ≡ true
+  use-of u s =
+      rw (
+        le-leb 1 (u .point) (s .not-origin),
+        le-leb (u .point) n (s .live),
+        le-leb (u .offset) 1000000 (s .offset),
+        le-leb 1 (u .length) (s .some),
+        le-leb (u .length) 1000000 (s .length),
+      )
+
+  abbrev SizedLine : Line → Type 0
+  SizedLine l = (l .count ≤ 32) × All (SizedUse n) (lineOf l)
+
+  line-to : (l : Line) → sizedLine n l ≡ true → SizedLine l
+  unfolding sizedLine
+  line-to l h =
+      let p = both-true (leb (l .count) 32) (allOf (sizedUse n) (lineOf l)) h in
+      (leb-true (l .count) 32 (p .0), all-to (SizedUse n) (sizedUse n) use-to (lineOf l) (p .1))
+
+  line-of : (l : Line) → SizedLine l → sizedLine n l ≡ true
+  unfolding sizedLine
+  line-of l s = rw (le-leb (l .count) 32 (s .0), all-of (SizedUse n) (sizedUse n) use-of (lineOf l) (s .1))
+
+-- ---- sent jobs come first
+
+none-to : (js : List Job) → sentFrom false js ≡ true → NoneSent js
+unfolding sentFrom
+none-to [] h = tt
+none-to (j ∷ js) h = let p = both-true (not (j .sent)) (sentFrom false js) h in (not-true (j .sent) (p .0), none-to js (p .1))
+
+none-of : (js : List Job) → NoneSent js → sentFrom false js ≡ true
+unfolding sentFrom
+none-of [] p = refl
+none-of (j ∷ js) p = rw (p .0) (none-of js (p .1))
+
+none-first : (js : List Job) → NoneSent js → SentFirst js
+none-first [] p = tt
+none-first (j ∷ js) p = (λ unsent. p .1, none-first js (p .1))
+
+first-to : (js : List Job) → sentFrom true js ≡ true → SentFirst js
+unfolding sentFrom
+first-to [] h = tt
+first-to (j ∷ js) h = go (first-to js) (j .sent) refl
+  where
+    go : (sentFrom true js ≡ true → SentFirst js) → (s : Bool) → j .sent ≡ s → (j .sent ≡ false → NoneSent js) × SentFirst js
+    go rest true e = (λ unsent. absurd (false≢true (sym unsent ∙ e)), rest (rw e at h))
+    go rest false e = let none : NoneSent js = none-to js (rw e at h) in (λ unsent. none, none-first js none)
+
+first-of : (js : List Job) → SentFirst js → sentFrom true js ≡ true
+unfolding sentFrom
+first-of [] p = refl
+first-of (j ∷ js) p = go (first-of js (p .1)) (j .sent) refl
+  where
+    go : sentFrom true js ≡ true → (s : Bool) → j .sent ≡ s → sentFrom (j .sent) js ≡ true
+    go rest true e = rw e rest
+    go rest false e = rw e (none-of js (p .0 e))
+
+-- ---- the points of sent jobs stand still
+
+module _ (l : List ℕ) where
+  abbrev Still : ℕ → ℕ → Type 0
+  Still x m = (i : ℕ) → x ≤ i → i < x + m → cell l 0 i + cell l i 0 ≡ bias + bias
+
+  stand-to : (x m : ℕ) → standStill l x m ≡ true → Still x m
+  unfolding standStill
+  stand-to x m h i from to =
+      let same : x + (i - x) ≡ i = omega arith in
+      let at = allBelow-to (λ k. eqb (cell l 0 (x + k) + cell l (x + k) 0) (bias + bias)) m h (i - x) (omega arith) in
+      eqb-true (cell l 0 i + cell l i 0) (bias + bias) (rw same at at)
+
+  stand-of : (x m : ℕ) → Still x m → standStill l x m ≡ true
+  unfolding standStill
+  stand-of x m s = allBelow-of _ m (λ k lt. eq-eqb _ _ (s (x + k) (omega arith) (omega arith)))
+
+  still-to : (x : ℕ) (js : List Job) → stillSent l x js ≡ true → StillSent l x js
+  unfolding stillSent
+  still-to x [] h = tt
+  still-to x (j ∷ js) h =
+      let p = both-true (stillJob l x j) (stillSent l (x + j .points) js) h in
+      (λ sent. stand-to x (j .points) (rw sent at (p .0)), still-to (x + j .points) js (p .1))
+
+  still-of : (x : ℕ) (js : List Job) → StillSent l x js → stillSent l x js ≡ true
+  unfolding stillSent
+  still-of x [] p = refl
+  still-of x (j ∷ js) p = rw (go (j .sent) refl) (still-of (x + j .points) js (p .1))
+    where
+      go : (s : Bool) → j .sent ≡ s → stillJob l x j ≡ true
+      go true e = rw e (stand-of x (j .points) (p .0 e))
+      go false e = rw e
+
+-- ---- the board
+
+all-clauses :
+    {a b c d e f : Bool} → a ≡ true → b ≡ true → c ≡ true → d ≡ true → e ≡ true → f ≡ true → (a && (b && (c && (d && (e && f))))) ≡ true
+all-clauses p q r s t u = rw (p, q, r, s, t, u)
+
+module _ (b : Board) where
+  -- the line of each resource, from the test of the list of lines
+  lines-to : length (b .lines) ≡ 16 → allOf (sizedLine (pointsOf b)) (b .lines) ≡ true
+      → (k : ℕ) → k < 16 → SizedLine (pointsOf b) (getD (b .lines) k noLine)
+  lines-to size h k lt =
+      all-at (SizedLine (pointsOf b)) (b .lines) noLine
+      (all-to (SizedLine (pointsOf b)) (sizedLine (pointsOf b)) (line-to (pointsOf b)) (b .lines) h) k (omega arith)
+
+  pub sound-to : length (b .lines) ≡ 16 → sound b ≡ true → Sound b
+  unfolding sound
+  sound-to size h =
+      let n = pointsOf b in
+      let js = jobsOf (b .jobs) in
+      let numbers = sizedNumbers (b .horizon) (b .lead) (b .clock) in
+      let lined = allOf (sizedLine n) (b .lines) in
+      let table = isGapTable (b .gaps) (suc n) (b .horizon) in
+      let still = stillSent (b .gaps) 1 js in
+      let p = both-true numbers (sizedJobs (b .jobs) && (lined && (sentFrom true js && (table && still)))) h in
+      let q = both-true (sizedJobs (b .jobs)) (lined && (sentFrom true js && (table && still))) (p .1) in
+      let r = both-true lined (sentFrom true js && (table && still)) (q .1) in
+      let s = both-true (sentFrom true js) (table && still) (r .1) in
+      let t = both-true table still (s .1) in
+      let ranges = numbers-to (b .horizon) (b .lead) (b .clock) (p .0) in
+      let jobs = jobs-to (b .jobs) (q .0) in
+      record {
+        horizon = ranges .0;
+        lead = ranges .1;
+        clock = ranges .2;
+        jobs = jobs .0;
+        sizes = jobs .1;
+        points = jobs .2;
+        lines = λ k lt. lines-to size (r .0) k lt .0;
+        uses = λ k lt. lines-to size (r .0) k lt .1;
+        sent-first = first-to js (s .0);
+        sent-still = still-to (b .gaps) 1 js (t .1);
+        table = gapTable-to (b .gaps) (suc n) (b .horizon) (omega (arith, jobs .2)) (t .0);
+      }
+
+  pub sound-of : length (b .lines) ≡ 16 → Sound b → sound b ≡ true
+  unfolding sound
+  sound-of size s =
+      let n = pointsOf b in
+      let js = jobsOf (b .jobs) in
+      let numbers : sizedNumbers (b .horizon) (b .lead) (b .clock) ≡ true =
+      numbers-of (b .horizon) (b .lead) (b .clock) (s .horizon) (s .lead) (s .clock) in
+      let lined : allOf (sizedLine n) (b .lines) ≡ true =
+      all-of (SizedLine n) (sizedLine n) (line-of n) (b .lines)
+      (all-from (SizedLine n) (b .lines) noLine (λ k lt. (s .lines k (omega arith), s .uses k (omega arith)))) in
+      let table : isGapTable (b .gaps) (suc n) (b .horizon) ≡ true =
+      gapTable-of (b .gaps) (suc n) (b .horizon) (omega (arith, s .points)) (s .table) in
+      all-clauses numbers (jobs-of (b .jobs) (s .jobs) (s .sizes) (s .points)) lined (first-of js (s .sent-first)) table
+      (still-of (b .gaps) 1 js (s .sent-still))
+
+  -- the one premise: an array of 16 lines has 16 lines
+  pub sound-is : length (b .lines) ≡ 16 → (sound b ≡ true) ↔ Sound b
+  sound-is size = (sound-to size, sound-of size)

@@ -1,0 +1,31 @@
+-- `sound::cancel` meets its contract. A first number above the sum cannot be completed; else the second is compared with what is missing.
+use Prim.Native.Nat.{_+_, _<_}
+use mathlib.Core.Path.{sym}
+use native.Mathlib.Omega.{arith}
+use borrow.Author.Tests.{ne-eqb}
+use borrow.Author.Needs.{needs}
+use Rattle.stn.specs.Table.{bias}
+use Rattle.sound.proofs.Flags.{cancel-test}
+use Rattle.sound.proofs.cancel.Statement.{statement}
+use Rattle.sound.proofs.cancel.Tie as tie
+
+mul-if1 : tie.Need-mul-if1
+mul-if1 c = search needs
+
+returns : tie.Need-returns
+returns c = let a = c .before .args .a in
+    let b = c .before .args .b in
+    let above : bias + bias < a = omega arith in
+    sym (ne-eqb (a + b) (bias + bias) (λ same. omega (arith, above)))
+
+mul-result : tie.Need-mul-result
+mul-result c = search needs
+
+sub-result : tie.Need-sub-result
+sub-result c = search needs
+
+returns-2 : tie.Need-returns-2
+returns-2 c = cancel-test (c .before .args .a) (c .before .args .b) (bias + bias) (omega arith)
+
+pub cancel-spec : {M : Type 1} → statement M
+cancel-spec = tie.close (tie.spec mul-if1 returns mul-result sub-result returns-2)

@@ -1,0 +1,218 @@
+// The board, and whether it is sound. A board comes from outside, so any number may stand anywhere in it: each count is compared with its
+// array before the array is walked, and each number with its limit before it is added to another.
+//
+// Each function is one clause of the test in specs/Sound.
+use gaps::is_gap_table;
+use lines::Jobs;
+use lines::Line;
+use lines::points;
+use plain::Job;
+use plain::Use;
+ghost use mathlib.Core.Path.{_≡_};
+ghost use mathlib.Core.Bool.{true};
+ghost use Prim.Native.Nat.{_+_, _≤_};
+ghost use lib.ListN.{length};
+ghost use lib.Dec.{leb, eqb};
+ghost use Rattle.stn.specs.Table.{bias};
+ghost use Rattle.plain.specs.Plain.{total};
+ghost use Rattle.lines.specs.Held.{jobsOf, lineOf};
+ghost use Rattle.lines.specs.Asked.{Sized};
+ghost use Rattle.sound.specs.Sound.{allOf, sizedNumbers, sizedJob, sizedJobs, sizedUse, sizedLine, sentFrom, standStill, stillJob, stillSent, sound};
+
+const BIAS: u32 = 100_000_000;
+
+// The jobs under way, the lines of their uses, and the gap table: cell (i, j) at 65 i + j holds the gap from i to j plus the bias.
+pub struct Board {
+    pub horizon: u32,
+    pub lead: u32,
+    pub clock: u32,
+    pub jobs: Jobs,
+    pub lines: [Line; 16],
+    pub gaps: [u32; 4225],
+}
+
+// ---- numbers and jobs
+
+fn are_numbers_sized(horizon: u32, lead: u32, clock: u32) -> bool
+    ensures { λ r. ⌜ r ≡ sizedNumbers horizon lead clock ⌝ }
+{
+    (1 <= horizon) & (horizon <= 100_000_000) & (lead <= 1_000_000) & (clock <= horizon)
+}
+
+fn is_job_sized(job: Job) -> bool
+    ensures { λ r. ⌜ r ≡ sizedJob job ⌝ }
+{
+    (2 <= job.points) & (job.points <= 9)
+}
+
+fn is_each_sized(jobs: Jobs) -> bool
+    requires { ⌜ jobs .count ≤ 16 ⌝ }
+    ensures { λ r. ⌜ r ≡ allOf sizedJob (jobsOf jobs) ⌝ }
+{
+    let mut ok = true;
+    for k in 0..jobs.count {
+        let job = jobs.jobs[k];
+        ok = ok & is_job_sized(job);
+    }
+    ok
+}
+
+// The jobs have no more than 64 points together. What is left of the 64 goes down, so that no sum can wrap.
+fn are_points_few(jobs: Jobs) -> bool
+    requires { ⌜ jobs .count ≤ 16 ⌝ }
+    ensures { λ r. ⌜ r ≡ leb (total (jobsOf jobs)) 64 ⌝ }
+{
+    let mut left = 64;
+    for k in 0..jobs.count {
+        let job = jobs.jobs[k];
+        if left < job.points {
+            return false;
+        }
+        left -= job.points;
+    }
+    true
+}
+
+fn are_jobs_sized(jobs: Jobs) -> bool
+    ensures { λ r. ⌜ r ≡ sizedJobs jobs ⌝ }
+{
+    if 16 < jobs.count {
+        return false;
+    }
+    if !is_each_sized(jobs) {
+        return false;
+    }
+    are_points_few(jobs)
+}
+
+// ---- lines
+
+fn is_use_sized(u: Use, n: u32) -> bool
+    ensures { λ r. ⌜ r ≡ sizedUse n u ⌝ }
+{
+    (1 <= u.point)
+        & (u.point <= n)
+        & (u.offset <= 1_000_000)
+        & (1 <= u.length)
+        & (u.length <= 1_000_000)
+}
+
+fn are_uses_sized(line: Line, n: u32) -> bool
+    requires { ⌜ line .count ≤ 32 ⌝ }
+    ensures { λ r. ⌜ r ≡ allOf (sizedUse n) (lineOf line) ⌝ }
+{
+    let mut ok = true;
+    for k in 0..line.count {
+        let u = line.uses[k];
+        ok = ok & is_use_sized(u, n);
+    }
+    ok
+}
+
+fn is_line_sized(line: Line, n: u32) -> bool
+    ensures { λ r. ⌜ r ≡ sizedLine n line ⌝ }
+{
+    if 32 < line.count {
+        return false;
+    }
+    are_uses_sized(line, n)
+}
+
+fn are_lines_sized(lines: [Line; 16], n: u32) -> bool
+    ensures { λ r. ⌜ r ≡ allOf (sizedLine n) lines ⌝ }
+{
+    let mut ok = true;
+    for k in 0..16 {
+        ok = ok & is_line_sized(lines[k], n);
+    }
+    ok
+}
+
+// ---- sent jobs
+
+fn is_sent_first(jobs: Jobs) -> bool
+    requires { ⌜ jobs .count ≤ 16 ⌝ }
+    ensures { λ r. ⌜ r ≡ sentFrom true (jobsOf jobs) ⌝ }
+{
+    let mut ok = true;
+    let mut all = true;
+    for k in 0..jobs.count {
+        let job = jobs.jobs[k];
+        ok = ok & (all | !job.sent);
+        all = all & job.sent;
+    }
+    ok
+}
+
+// The two are twice the bias together. They are not added: they may be any numbers.
+fn cancel(a: u32, b: u32) -> bool
+    ensures { λ r. ⌜ r ≡ eqb (a + b) (bias + bias) ⌝ }
+{
+    if 2 * BIAS < a {
+        return false;
+    }
+    b == 2 * BIAS - a
+}
+
+fn stand_still(t: &[u32], x: usize, m: usize) -> bool
+    requires { ⌜ (length (now t) ≡ 4225) × (x + m ≤ 65) ⌝ }
+    ensures { λ r. ⌜ r ≡ standStill (now (t .entry)) x m ⌝ }
+{
+    let mut ok = true;
+    for k in 0..m {
+        let i = x + k;
+        ok = ok & cancel(t[i], t[i * 65]);
+    }
+    ok
+}
+
+fn is_job_still(t: &[u32], x: usize, job: Job) -> bool
+    requires { ⌜ (length (now t) ≡ 4225) × (x + job .points ≤ 65) ⌝ }
+    ensures { λ r. ⌜ r ≡ stillJob (now (t .entry)) x job ⌝ }
+{
+    if !job.sent {
+        return true;
+    }
+    stand_still(t, x, job.points as usize)
+}
+
+fn is_sent_still(t: &[u32], jobs: Jobs) -> bool
+    requires { ⌜ (length (now t) ≡ 4225) × Sized jobs ⌝ }
+    ensures { λ r. ⌜ r ≡ stillSent (now (t .entry)) 1 (jobsOf jobs) ⌝ }
+{
+    let mut ok = true;
+    let mut x = 1;
+    for k in 0..jobs.count {
+        let job = jobs.jobs[k];
+        ok = ok & is_job_still(t, x, job);
+        x += job.points as usize;
+    }
+    ok
+}
+
+// ---- the board
+
+pub fn is_sound(b: Board) -> bool
+    ensures { λ r. ⌜ r ≡ sound b ⌝ }
+{
+    if !are_numbers_sized(b.horizon, b.lead, b.clock) {
+        return false;
+    }
+    let jobs = b.jobs;
+    if !are_jobs_sized(jobs) {
+        return false;
+    }
+    let n = points(jobs);
+    let lines = b.lines;
+    if !are_lines_sized(lines, n) {
+        return false;
+    }
+    if !is_sent_first(jobs) {
+        return false;
+    }
+    let gaps = b.gaps;
+    if !is_gap_table(&gaps, n as usize + 1, b.horizon) {
+        return false;
+    }
+    is_sent_still(&gaps, jobs)
+}
