@@ -17,6 +17,7 @@ use Rattle.demands.proofs.Step.{sim-keeps, sim-exists}
 use Rattle.demands.proofs.Tidy.{holds-agree}
 use Rattle.agreement.specs.Abstract.{Shaped, abstractOf, Answers, Agreed}
 use Rattle.agreement.proofs.Keeps.{Answered, plan-answered, send-answered, clock-answered}
+use Rattle.agreement.proofs.Retiring.{retire-answered}
 
 -- a book beside the abstract answer is beside the board's: the state is the same, and so are the cells that count
 pub carried : {a : Ruled} {m : Answer} → Answered a m → (k : Book) → Sim (m .board) k → Sim (abstractOf (a .board)) k
@@ -35,7 +36,7 @@ module _ (b : Board) (w : Shaped b) (s : Sound b) where
   call-answered (plan p o) a e = rw e (plan-answered b w s p o)
   call-answered (send place) a e = rw e (send-answered b w s place)
   call-answered (clock c) a e = rw e (clock-answered b w s c)
-  call-answered retire a e = absurd e
+  call-answered retire a e = rw e (retire-answered b w s)
 
   pub call-sound : (call : Call) (a : Ruled) → Answers b call a → Shaped (a .board) × Sound (a .board)
   call-sound call a e = let ans = call-answered call a e in (ans .shaped, ans .sound)

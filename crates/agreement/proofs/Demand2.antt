@@ -6,13 +6,13 @@
 --   send-decided    send, past 18: always accepted, with a timetable left, and each point sent at its least time of before
 --   after-20        after 20, sending the newest job and repeating the clock call succeeds
 --   plan-14         14, past the reading: exactly when there are 16 jobs or the points would pass 64
+-- Retire's are in TwentyOne (when it is accepted and when 21) and Room (what it leaves).
 use mathlib.Core.Path.{_≡_, refl, sym, ap, subst, _∙_}
 use mathlib.Core.Logic.{_↔_, _⊎_}
 use mathlib.Core.Bool.{true, false, not}
 use mathlib.Core.List.{List, _++_}
 use Prim.Native.Nat.{ℕ, suc, _+_, _≤_, _<_}
 use lib.ListN.{length, getD}
-use lib.Seq.{length-take-le}
 use native.Mathlib.Omega.{arith}
 use borrow.Author.Tests.{le-leb}
 use Rattle.rulings.specs.declared.Ruling.the-variants.{Accepted}
@@ -35,7 +35,7 @@ use Rattle.demands.proofs.After20.{after20}
 use Rattle.demands.proofs.Step.{sim-keeps, sim-exists}
 use Rattle.agreement.specs.Abstract.{Shaped, livePoints, bookOf, Answers, Agreed}
 use Rattle.agreement.specs.Timetables.{Timetable, Minimal, Decided, SetLeast}
-use Rattle.agreement.proofs.Parts.{parts-of}
+use Rattle.agreement.proofs.Parts.{parts-of, jobs-count}
 use Rattle.agreement.proofs.Books.{sound-sim}
 use Rattle.agreement.proofs.Keeps.{planned-is, send-answered, clock-answered}
 use Rattle.agreement.proofs.Agreement.{carried, call-agrees}
@@ -103,8 +103,7 @@ module _ (b : Board) (w : Shaped b) (s : Sound b) where
   unfolding heard
   plan-14 p o offer e =
       let few = s .jobs in
-      let size = w .jobs in
-      let is : length (stateOf b .jobs) ≡ b .jobs .count = length-take-le (b .jobs .count) (b .jobs .jobs) (omega (arith, few, size)) in
+      let is = jobs-count b w s in
       let answer : planned b p o ≡ decided b (drafted (stateOf b) offer) = planned-is b w s p o ∙ ap (heard b) e in
       rw answer
       (subst (λ (k : ℕ). (decided b (drafted (stateOf b) offer) .ruling ≡ refuse 14) ↔ ((k ≡ 16) ⊎ (64 < total (stateOf b .jobs) + pointsOf offer))) is

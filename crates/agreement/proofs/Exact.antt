@@ -1,4 +1,5 @@
 -- From the rule book back to the board: what a book beside a board says of its table and of its answers.
+--   sim-same         the timetables of a board beside a book are those possible in the book
 --   sim-minimal      of a board and a book that are side by side the table is the gap table of what is possible
 --   made-meant       possible once rules are made on a sound board's book: a timetable of the board that keeps them
 --   passed           a call that passed the test before it
@@ -33,7 +34,7 @@ use Rattle.agreement.specs.Timetables.{Timetable, Some, Minimal, Decided
 use Rattle.agreement.proofs.Books.{sound-sim}
 
 module _ (b : Board) (bk : Book) (x : Sim (abstractOf b) bk) where
-  sim-same : (u : Times) → Timetable b u ↔ Possible bk u
+  pub sim-same : (u : Times) → Timetable b u ↔ Possible bk u
   sim-same u = rw (turned x) (x .holds .same u)
 
   pub sim-minimal : (Y : Times → Type 0) → ((u : Times) → Possible bk u ↔ Y u) → Minimal Y b

@@ -1,8 +1,8 @@
 -- Refusal 14, past the reading: there are 16 jobs, or the points would pass 64; and no other cause is 14.
 --   NoRoom s n       so, of a state s and n new points;  full-to, full-of: the test says it
---   placed-other     placing stops with 15 or 16 alone
+--   Other q          placing stops with 15 or more;  placed-other shows it
 --   decided-14       what is decided is 14 exactly where there is no room
-use mathlib.Core.Path.{_≡_, refl, sym, _∙_}
+use mathlib.Core.Path.{_≡_, refl, sym, ap, _∙_}
 use mathlib.Core.Logic.{_↔_, _⊎_, inl, inr}
 use mathlib.Core.Bool.{Bool, true, false, true≢false, false≢true, cond, _||_}
 use mathlib.Core.List.{List, [], _∷_, _++_}
@@ -13,7 +13,8 @@ use native.Mathlib.Omega.{arith}
 use lib.Dec.{ltb, leb}
 use lib.ListN.{length, getD, set}
 use borrow.Author.Tests.{lt-leb, le-ltb}
-use Rattle.rulings.specs.Answer.{cause, plain, refuse}
+use Rattle.rulings.specs.declared.Ruling.the-variants.{Refused}
+use Rattle.rulings.specs.Answer.{cause, plain, refuse, numberOf}
 use Rattle.plain.specs.declared.Put.{Put}
 use Rattle.plain.specs.declared.Rule.{Rule}
 use Rattle.plain.specs.declared.Use.{Use}
@@ -65,11 +66,11 @@ module _ (s : State) (n : ℕ) where
 
 -- ---- no other cause is 14
 
-unfoldable Other : Placed → Type 0
-Other (Placed.stop c) = c ≡ plain 14 → ⊥
+unfoldable pub Other : Placed → Type 0
+Other (Placed.stop c) = 15 ≤ numberOf (Refused c)
 Other (Placed.done ls rs) = Unit {0}
 
-placed-other : (x i : ℕ) (ps : List Put) (ls : List (List Use)) (rs : List Rule) → Other (placed x i ps ls rs)
+pub placed-other : (x i : ℕ) (ps : List Put) (ls : List (List Use)) (rs : List Rule) → Other (placed x i ps ls rs)
 unfolding Other placed
 placed-other x i [] ls rs = tt
 placed-other x i (p ∷ ps) ls rs = choose (ltb (length line) (p .place)) (leb 32 (length line)) _ (placed-other x (suc i) ps after rules)
@@ -86,8 +87,8 @@ placed-other x i (p ∷ ps) ls rs = choose (ltb (length line) (p .place)) (leb 3
     choose :
         (exceeds has32 : Bool) (next : Placed) → Other next
         → Other (cond exceeds (Placed.stop (cause 15 i)) (cond has32 (Placed.stop (cause 16 i)) next))
-    choose true has32 next q = λ e. let z : _≡_ {A = ℕ} 0 1 = cc in omega arith
-    choose false true next q = λ e. let z : _≡_ {A = ℕ} 0 1 = cc in omega arith
+    choose true has32 next q = omega arith
+    choose false true next q = omega arith
     choose false false next q = q
 
 module _ (b : Board) (o : Offer) where
@@ -98,7 +99,7 @@ module _ (b : Board) (o : Offer) where
 
   joining-other : (q : Placed) → Other q → decided b (joining (stateOf b) o q) .ruling ≡ refuse 14 → ⊥
   unfolding Other decided joining
-  joining-other (Placed.stop c) other e = other cc
+  joining-other (Placed.stop c) other e = let is : numberOf (Refused c) ≡ 14 = ap numberOf e in omega (arith, other, is)
   joining-other (Placed.done ls rs) other e = settled-other _ _ e
 
   pub decided-14 :

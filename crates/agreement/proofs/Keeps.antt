@@ -2,6 +2,7 @@
 --   Answered a m       the answer a is the abstract answer m: same ruling, same state, the same cells of live points; and its board is
 --                      sound, its arrays of their lengths
 --   plan-answered, send-answered, clock-answered   each call's answer is
+--   refused-answered   a refusal's is;  retire's is in Retiring
 --   planned-is         on a sound board the plant file's refusals come with the reading's
 use mathlib.Core.Path.{_≡_, refl, sym, subst}
 use mathlib.Core.Bool.{Bool, true, false, cond, not}
@@ -65,7 +66,7 @@ module _ (b : Board) (w : Shaped b) (s : Sound b) where
   holds : Holds (stateOf b) (tableOf (b .gaps)) (tableRules (b .gaps) (livePoints b) (livePoints b))
   holds = parts-holds parts
 
-  refused-answered : (c : Cause) → Answered (refused b c) (Model.refusal (abstractOf b) c)
+  pub refused-answered : (c : Cause) → Answered (refused b c) (Model.refusal (abstractOf b) c)
   unfolding Model.refusal
   refused-answered c = record { ruling = refl; state = refl; cells = λ i j hi hj. refl; shaped = w; sound = s }
 

@@ -4,9 +4,17 @@ pub mod Tables
 pub mod Drafts
 pub mod States
 pub mod Keeps
+pub mod Retiring
 pub mod Agreement
 pub mod Exact
 pub mod Sending
 pub mod Fourteen
+pub mod Six
 pub mod Refused
 pub mod Demand2
+pub mod Lists
+pub mod Demand3
+pub mod Ending
+pub mod TwentyOne
+pub mod Room
+pub mod Reported

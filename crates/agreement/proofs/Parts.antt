@@ -2,7 +2,7 @@
 --   SizedLine n us     a line of at most 32 uses, each of the first n points beside the origin
 --   Limits s           the state's numbers, jobs and lines are within the limits, and sent jobs come before unsent ones
 --   Parts s l          the state s and the cells l are those of a sound board
---   parts-of           a sound board's are
+--   parts-of           a sound board's are;  jobs-count: it holds as many jobs as it counts
 --   state-back         a state of at most 16 jobs and at most 32 uses in each line (Few) is held by the board made of it
 --   parts-state        so the board made of sound parts holds them;  parts-sound, parts-shaped: it is sound, and its arrays have their lengths
 use mathlib.Core.Path.{_≡_, refl, ap₂, _∙_}
@@ -12,6 +12,7 @@ use Prim.Native.Nat.{ℕ, zero, suc, _+_, _≤_, _<_}
 use native.Mathlib.Omega.{arith}
 use lib.Dec.{T}
 use lib.ListN.{length, getD, length-take, length-map}
+use lib.Seq.{length-take-le}
 use Rattle.plain.specs.declared.Job.{Job}
 use Rattle.plain.specs.declared.Use.{Use}
 use Rattle.plain.specs.Plain.{State, total, liveCount}
@@ -124,6 +125,12 @@ parts-of b w s =
       table = s .table;
       still = still-to (b .gaps) 1 (jobsOf (b .jobs)) (s .sent-still);
     }
+
+pub jobs-count : (b : Board) → Shaped b → Sound b → length (stateOf b .jobs) ≡ b .jobs .count
+jobs-count b w s =
+    let few = s .jobs in
+    let size = w .jobs in
+    length-take-le (b .jobs .count) (b .jobs .jobs) (omega (arith, few, size))
 
 -- ---- to a board
 

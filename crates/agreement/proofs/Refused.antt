@@ -10,7 +10,9 @@ use Rattle.rulings.specs.declared.Ruling.{Ruling}
 use Rattle.rulings.specs.declared.Ruling.the-variants.{Accepted, Refused}
 use Rattle.rulings.proofs.Laws.{refused-no}
 use Rattle.plant.specs.Plant.{plantRuling}
-use Rattle.plain.specs.Plain.{State, Draft, liveCount, drafted, unsentAt, sentState, clockOk}
+use Rattle.plain.specs.Plain.{State, Draft, Leaving, liveCount, drafted, unsentAt, sentState, clockOk, leaving}
+use Rattle.stn.specs.Table.{implied}
+use Rattle.gaps.specs.Cells.{tableOf, dropped}
 use Rattle.rulebook.specs.Reading.{Reading, bad, good, readingOf}
 use Rattle.rulebook.specs.Book.{Call, plan, send, clock, retire}
 use Rattle.sound.specs.declared.Board.{Board}
@@ -18,7 +20,7 @@ use Rattle.sound.specs.Sound.{sound}
 use Rattle.settling.specs.Settled.{addedEach}
 use Rattle.board.specs.declared.Ruled.{Ruled}
 use Rattle.board.specs.Boards.{stateOf}
-use Rattle.board.specs.Calls.{refusal, accepted, settled, after, decided, heard, planned, sendRules, sent, clocked}
+use Rattle.board.specs.Calls.{refusal, accepted, settled, after, decided, heard, planned, sendRules, sent, clocked, left, retired}
 use Rattle.agreement.specs.Abstract.{Answers}
 
 module _ (b : Board) (c : Cause) where
@@ -52,8 +54,20 @@ module _ (b : Board) (c : Cause) where
   after-same Accepted a h = h
   after-same (Refused x) a h = λ e. refl
 
+  left-same : (q : Leaving) → Same (left b q)
+  unfolding left
+  left-same Leaving.stop = λ e. refl
+  left-same (Leaving.go m rs s) = go (implied (tableOf (b .gaps)) rs)
+    where
+      l : List ℕ
+      l = dropped (b .gaps) 1 m (liveCount (stateOf b))
+
+      go : (t : Bool) → Same (cond t (accepted s l) (refusal b 21))
+      go true = accepted-same s l
+      go false = λ e. refl
+
   pub refused-same : (call : Call) (a : Ruled) → Answers b call a → a .ruling ≡ Refused c → a .board ≡ b
-  unfolding Answers planned sent clocked
+  unfolding Answers planned sent clocked retired
   refused-same (plan p o) a e = rw e (after-same (plantRuling p) _ (guarded-same (not (sound b)) 6 _ (heard-same (readingOf p o))))
   refused-same (send place) a e =
       rw e
@@ -62,4 +76,4 @@ module _ (b : Board) (c : Cause) where
       (accepted-same (sentState (stateOf b) place) (addedEach (sendRules b place) (liveCount (stateOf b)) (b .gaps)))))
   refused-same (clock m) a e =
       rw e (guarded-same (not (sound b)) 6 _ (guarded-same (not (clockOk (stateOf b) m)) 19 _ (settled-same 20 _ _)))
-  refused-same retire a e = absurd e
+  refused-same retire a e = rw e (guarded-same (not (sound b)) 6 _ (left-same (leaving (stateOf b))))

@@ -1,2 +1,5 @@
 pub mod Abstract
 pub mod Timetables
+pub mod Runs
+pub mod Demand3
+pub mod Retire

@@ -2,25 +2,31 @@
 --   Timetable b u       the timetable u keeps to the board b: the origin at 0, and every cell of two live points kept
 --   Some Y              there is one of Y
 --   LargestGap Y i j d  d is the largest time of j minus time of i over Y: attained, and never passed
---   LeastTime Y x v     v is the least time of x over Y: attained, and never below
+--   LeastTime Y x v     v is the least time of x over Y: attained, and never below;  GreatestTime Y x v: the greatest, never above
 --   Minimal Y b         the board's table is the gap table of Y: it allows exactly Y, each cell less the bias is the largest gap, each
 --                       earliest time the least, and the earliest times together are one of Y
 --   Decided b n Y a     a call with the answer a is accepted exactly when Y is not empty, and else refused with the number n
 --   In x xs             x is one of the points xs;  AtLeast b xs u: each of them is at its least time over the board's timetables
 --   SetLeast b xs a     a call with the answer a sets each of the points xs to its least time over the board's timetables
+--   Tells b x r         the row r of a report is that of point x: it names the point, and its least and greatest time over the board's timetables
 use mathlib.Core.Path.{_≡_}
 use mathlib.Core.Logic.{_↔_, _⊎_}
 use mathlib.Core.List.{List, [], _∷_}
-use Prim.Native.Nat.{ℕ, _<_}
+use Prim.Native.Nat.{ℕ, suc, _+_, _<_}
+use lib.ListN.{getD, take}
 use lib.IntN.{ℤ, pos, subℕ, _+ℤ_}
 use lib.Signed.{_≤ℤ_}
 use Rattle.rulings.specs.declared.Ruling.the-variants.{Accepted}
+use Rattle.plain.specs.Plain.{total}
 use Rattle.plain.specs.Rules.{Times}
+use Rattle.lines.specs.Held.{noJob}
 use Rattle.stn.specs.Table.{bias, Fits, earliest, soonest}
 use Rattle.gaps.specs.Cells.{cell, tableOf}
 use Rattle.sound.specs.declared.Board.{Board}
 use Rattle.board.specs.declared.Ruled.{Ruled}
+use Rattle.board.specs.Boards.{stateOf}
 use Rattle.board.specs.Calls.{refusal}
+use Rattle.report.specs.declared.Row.{Row}
 use Rattle.agreement.specs.Abstract.{livePoints}
 
 abbrev pub Timetable : Board → Times → Type 0
@@ -36,6 +42,10 @@ pub record LargestGap (Y : Times → Type 0) (i j : ℕ) (d : ℤ) : Type 0 wher
 pub record LeastTime (Y : Times → Type 0) (x v : ℕ) : Type 0 where
   pub attained : (u : Times) × Y u × (u x ≡ pos v)
   pub least : (u : Times) → Y u → pos v ≤ℤ u x
+
+pub record GreatestTime (Y : Times → Type 0) (x v : ℕ) : Type 0 where
+  pub attained : (u : Times) × Y u × (u x ≡ pos v)
+  pub most : (u : Times) → Y u → u x ≤ℤ pos v
 
 pub record Minimal (Y : Times → Type 0) (b : Board) : Type 0 where
   pub same : (u : Times) → Timetable b u ↔ Y u
@@ -65,3 +75,10 @@ pub record SetLeast (b : Board) (xs : List ℕ) (a : Ruled) : Type 0 where
   -- each point stands at its least time of before the call, in all timetables after it
   pub still : (x : ℕ) → In x xs → (v : ℕ) × LeastTime (Timetable b) x v × ((u : Times) → Timetable (a .board) u → u x ≡ pos v)
   pub table : Minimal (λ u. Timetable b u × AtLeast b xs u) (a .board)
+
+pub record Tells (b : Board) (x : ℕ) (r : Row) : Type 0 where
+  -- the origin, the points of the jobs before the row's job, and those before the row's point in it, are all before x
+  pub number : suc (total (take (r .job) (stateOf b .jobs)) + r .point) ≡ x
+  pub point : r .point < getD (stateOf b .jobs) (r .job) noJob .points
+  pub earliest : LeastTime (Timetable b) x (r .earliest)
+  pub latest : GreatestTime (Timetable b) x (r .latest)

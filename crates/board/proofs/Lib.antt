@@ -6,3 +6,4 @@ pub mod Sent
 pub mod Placed
 pub mod Drafts
 pub mod Planned
+pub mod Retired

@@ -6,6 +6,7 @@
 --   planned b p o     plan, of the plant file p and the offer o: 1 to 4, 6, 7 to 13, 14 to 16, 17, or the board with the job
 --   sent b place      send: 6, 18, or the board with the jobs sent
 --   clocked b c       clock: 6, 19, 20, or the board with its clock moved
+--   retired b         retire: 6, 21, or the board without its oldest job
 -- Jobs, lines, clock and rules are the plain machine's, as in the rule book; the table is the list of its cells. That the cells are the
 -- gaps over the timetables meant, on every sound board, is proved in the crate demands.
 use Prim.Native.Nat.{ℕ, suc, _+_}
@@ -20,8 +21,8 @@ use Rattle.plant.specs.Plant.{plantRuling}
 use Rattle.plain.specs.declared.Rule.{Rule}
 use Rattle.plain.specs.Plain
 use Rattle.rulebook.specs.Reading.{Reading, bad, good, readingOf}
-use Rattle.stn.specs.Table.{earliest}
-use Rattle.gaps.specs.Cells.{tableOf, grown}
+use Rattle.stn.specs.Table.{earliest, implied}
+use Rattle.gaps.specs.Cells.{tableOf, grown, dropped}
 use Rattle.sound.specs.declared.Board.{Board}
 use Rattle.sound.specs.Sound.{sound}
 use Rattle.settling.specs.Settled.{addedAll, addedEach}
@@ -84,3 +85,15 @@ clocked b c =
     (cond (not (Plain.clockOk (stateOf b) c)) (refusal b 19)
     (settled b 20 (Plain.clockState (stateOf b) c)
     (addedAll (Plain.starts (c + b .lead) 1 (stateOf b .jobs)) (Plain.liveCount (stateOf b)) (b .gaps))))
+
+-- ---- retire
+
+-- 21 for no job and for an unsent one; else the rules say that its last point and its uses end by the clock, and the table says whether they
+-- are kept in every timetable
+unfoldable pub left : Board → Plain.Leaving → Ruled
+left b Plain.Leaving.stop = refusal b 21
+left b (Plain.Leaving.go m rs s) =
+    cond (implied (tableOf (b .gaps)) rs) (accepted s (dropped (b .gaps) 1 m (Plain.liveCount (stateOf b)))) (refusal b 21)
+
+unfoldable pub retired : Board → Ruled
+retired b = cond (not (sound b)) (refusal b 6) (left b (Plain.leaving (stateOf b)))

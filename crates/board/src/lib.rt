@@ -2,11 +2,13 @@
 mod clocking; // the clock moved
 mod parts; // what the calls share
 mod planning; // a job planned
+mod retiring; // the oldest job leaves
 mod sending; // jobs sent
 mod starting; // a fresh board
 
 pub use clocking::clock;
 pub use planning::plan;
+pub use retiring::retire;
 use rulings::Ruling;
 pub use sending::send;
 use sound::Board;

@@ -2,3 +2,4 @@ pub mod Overlaid
 pub mod Added
 pub mod Grown
 pub mod GapTable
+pub mod Dropped

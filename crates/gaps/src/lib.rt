@@ -9,8 +9,8 @@ ghost use Prim.Native.Nat.{ℕ, _+_, _-_, _*_, _%_, _≤_, _<_, min};
 ghost use lib.ListN.{length, getD};
 ghost use lib.Dec.{leb};
 ghost use Rattle.lists.specs.Loops.{rewritten};
-ghost use Rattle.stn.specs.Table.{bias, Closed, earliest, latest, grow};
-ghost use Rattle.gaps.specs.Cells.{cell, tableOf, rowOf, overlaid, relaxed, added, hungCell, grown, Usable, Bounded, Whole};
+ghost use Rattle.stn.specs.Table.{bias, Closed, earliest, latest, grow, pick, oldNumber};
+ghost use Rattle.gaps.specs.Cells.{cell, tableOf, rowOf, overlaid, relaxed, added, hungCell, grown, dropped, Usable, Bounded, Whole};
 ghost use Rattle.gaps.specs.GapTable.{limit, rowInRange, inRange, isDiagonal, inWindows, wayHolds, rowHolds, isClosed, isGapTable};
 
 const BIAS: u32 = 100_000_000;
@@ -183,6 +183,60 @@ pub fn grow(t: &mut [u32], n: usize, m: usize, most: u32)
     for k in 0..m {
         hang(t, n + k, most);
     }
+}
+
+// ---- points dropped
+
+// The number that point x had before the m points from f on were dropped.
+fn old_number(f: usize, m: usize, x: usize) -> usize
+    requires { ⌜ (x ≤ 65) × (m ≤ 65) ⌝ }
+    ensures { λ r. ⌜ r ≡ oldNumber f m x ⌝ }
+{
+    if x < f {
+        return x;
+    }
+    x + m
+}
+
+// `count` cells of t, from `from` on, copied to the places from `to` on.
+fn copy_cells(next: &mut [u32], to: usize, t: &[u32], from: usize, count: usize)
+    requires { ⌜ (length (now next) ≡ 4225) × (length (now t) ≡ 4225) × (to + count ≤ 4225) × (from + count ≤ 4225) ⌝ }
+    ensures { λ _. ⌜ now (next .exit) ≡ rewritten (λ k. getD (now (t .entry)) (from + (k - to)) 0) (now (next .entry)) to (to + count) ⌝ }
+{
+    for k in 0..count {
+        next[to + k] = t[from + k];
+    }
+}
+
+// Row a of the table that is left, with `left` points: the row of the point's old number, without the columns of the points dropped.
+fn drop_columns(next: &mut [u32], t: &[u32], f: usize, m: usize, left: usize, a: usize)
+    requires { ⌜ (length (now next) ≡ 4225) × (length (now t) ≡ 4225) × (f ≤ left) × (left + m ≤ 65) × (a < left) ⌝ }
+    ensures { λ _. ⌜ now (next .exit) ≡ rewritten (λ k. cell (now (t .entry)) (oldNumber f m a) (oldNumber f m (k % 65))) (now (next .entry)) (a * 65) (a * 65 + left) ⌝ }
+{
+    let from = old_number(f, m, a) * 65;
+    let to = a * 65;
+    copy_cells(next, to, t, from, f);
+    copy_cells(next, to + f, t, from + f + m, left - f);
+}
+
+// All rows of the table that is left. Where no point is left, `next` keeps what it held.
+fn drop_rows(next: &mut [u32], t: &[u32], f: usize, m: usize, left: usize)
+    requires { ⌜ (length (now next) ≡ 4225) × (length (now t) ≡ 4225) × (f ≤ left) × (left + m ≤ 65) ⌝ }
+    ensures { λ _. ⌜ now (next .exit) ≡ overlaid left (pick (oldNumber f m) (tableOf (now (t .entry)))) (now (next .entry)) ⌝ }
+{
+    for a in 0..left {
+        drop_columns(next, t, f, m, left, a);
+    }
+}
+
+// The m points from f on dropped from a table of n points: later points are renumbered down, and freed cells hold 0.
+pub fn drop_points(t: &[u32], f: usize, m: usize, n: usize) -> [u32; 4225]
+    requires { ⌜ (length (now t) ≡ 4225) × (f + m ≤ n) × (n ≤ 65) ⌝ }
+    ensures { λ r. ⌜ r ≡ dropped (now (t .entry)) f m n ⌝ }
+{
+    let mut next = [0u32; 4225];
+    drop_rows(&mut next, t, f, m, n - m);
+    next
 }
 
 // ---- the test of a table

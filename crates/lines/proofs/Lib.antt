@@ -2,6 +2,7 @@ pub mod Padded
 pub mod Lists
 pub mod JobLaws
 pub mod LineLaws
+pub mod LeavingLaws
 pub mod RuleLaws
 pub mod PlaceLaws
 pub mod DraftLaws

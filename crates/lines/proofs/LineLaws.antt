@@ -6,9 +6,8 @@
 --   hole, hole-*            putting in moves a hole down from the line's end: at k stands what the line has there
 use Prim.Native.Nat.{ℕ, zero, suc, _+_, _≤_, _<_}
 use mathlib.Core.Path.{_≡_, refl, sym, _∙_, ap}
-use mathlib.Core.List.{List, [], _∷_, _++_, map, append-nil}
-use lib.ListN.{length, getD, set, take, drop, replicate, length-take, drop-of-length-le, List·getD-eq-default}
-use lib.Seq.{take-all}
+use mathlib.Core.List.{List, [], _∷_, _++_, map}
+use lib.ListN.{length, getD, set, take, replicate, length-take, List·getD-eq-default}
 use native.Mathlib.Omega.{arith}
 use native.Mathlib.Numerals.{add-one}
 use Rattle.lines.specs.Padded.{padded}
@@ -17,7 +16,7 @@ use Rattle.lines.specs.Held.{lineOf, lineFrom, linesOf, linesFrom, noLin
 use Rattle.plain.specs.declared.Use.{Use}
 use Rattle.lines.specs.declared.Line.{Line}
 use Rattle.lines.proofs.Padded.{padded-none, padded-set, padded-copy, padded-last, padded-at, take-padded}
-use Rattle.lines.proofs.Lists.{length-held}
+use Rattle.lines.proofs.Lists.{length-held, mapping, mapping-ahead, mapping-more, mapping-all}
 
 pub line-back : (us : List Use) → length us ≤ 32 → lineOf (lineFrom us) ≡ us
 line-back us h = take-padded 32 noUse us h
@@ -54,39 +53,22 @@ abbrev tidied : Line → Line
 tidied q = lineFrom (lineOf q)
 
 abbrev pub tidying : List Line → ℕ → List Line
-tidying ls k = map tidied (take k ls) ++ drop k ls
+tidying = mapping tidied
 
 pub tidying-ahead : (ls : List Line) (k : ℕ) → getD (tidying ls k) k noLine ≡ getD ls k noLine
-tidying-ahead [] zero = refl
-tidying-ahead [] (suc k) = refl
-tidying-ahead (q ∷ ls) zero = refl
-tidying-ahead (q ∷ ls) (suc k) = tidying-ahead ls k
-
-tidying-suc : (ls : List Line) (k : ℕ) → k < length ls → set (tidying ls k) k (tidied (getD (tidying ls k) k noLine)) ≡ tidying ls (suc k)
-tidying-suc [] k h = absurd (omega arith)
-tidying-suc (q ∷ ls) zero h = refl
-tidying-suc (q ∷ ls) (suc k) h = ap (_∷_ (tidied q)) (tidying-suc ls k (omega arith))
+tidying-ahead ls k = mapping-ahead tidied ls k noLine
 
 pub tidying-more :
     (ls next : List Line) (k : ℕ) (new : Line) → next ≡ tidying ls k → k < length ls → new ≡ lineFrom (lineOf (getD next k noLine))
     → set next k new ≡ tidying ls (k + 1)
-tidying-more ls next k new e h is =
-    ap (set next k) is
-    ∙ ap (λ (l : List Line). set l k (tidied (getD l k noLine))) e
-    ∙ tidying-suc ls k h
-    ∙ ap (tidying ls) (sym (add-one k))
+tidying-more ls next k new e h is = mapping-more tidied ls next k noLine new e h is
 
 tidied-all : (ls : List Line) → map tidied ls ≡ linesFrom (linesOf ls)
 tidied-all [] = refl
 tidied-all (q ∷ ls) = ap (_∷_ (tidied q)) (tidied-all ls)
 
 pub tidying-all : (ls next : List Line) (k : ℕ) → next ≡ tidying ls k → length ls ≤ k → next ≡ linesFrom (linesOf ls)
-tidying-all ls next k e h =
-    e
-    ∙ ap (_++_ (map tidied (take k ls))) (drop-of-length-le ls h)
-    ∙ append-nil (map tidied (take k ls))
-    ∙ ap (map tidied) (take-all k ls h)
-    ∙ tidied-all ls
+tidying-all ls next k e h = mapping-all tidied ls next k e h ∙ tidied-all ls
 
 -- ---- a use put in
 

@@ -8,7 +8,7 @@ ghost use Rattle.lines.specs.Asked.{Sized};
 use crate::Jobs;
 use plain::Job;
 
-fn no_job() -> Job
+pub fn no_job() -> Job
     ensures { λ r. ⌜ r ≡ noJob ⌝ }
 {
     Job {

@@ -1,6 +1,7 @@
 // Jobs, lines and collected rules by value: the plain machine's code.
 mod drafting; // what an offer comes to before timetables are looked at
 mod joblist; // the list of jobs
+mod leaving; // what stays when points leave
 mod lining; // the lines of resources
 mod placing; // the allocations of an offer put into the lines
 mod rulelist; // the list of rules
@@ -13,6 +14,9 @@ pub use joblist::is_unsent;
 pub use joblist::mark_sent;
 pub use joblist::points;
 pub use joblist::tidy_jobs;
+pub use leaving::drop_oldest;
+pub use leaving::goes;
+pub use leaving::stay_lines;
 pub use lining::insert;
 pub use lining::tidy_line;
 pub use lining::tidy_lines;

@@ -7,7 +7,7 @@ ghost use Rattle.lines.specs.Held.{lineOf, lineFrom, linesOf, linesFrom,
 use crate::Line;
 use plain::Use;
 
-fn no_use() -> Use
+pub fn no_use() -> Use
     ensures { λ r. ⌜ r ≡ noUse ⌝ }
 {
     Use {

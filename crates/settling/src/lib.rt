@@ -1,6 +1,8 @@
-// Rules settled on a gap table: tried one after the other, or points set to their earliest times.
+// Rules settled on a gap table: tried one after the other, points set to their earliest times, or points that leave found to be over.
+mod ending; // whether points that leave are over by the clock
 mod freezing; // points set equal to their earliest times
 
+pub use ending::are_over;
 pub use freezing::freeze;
 use gaps::add;
 use gaps::agrees;

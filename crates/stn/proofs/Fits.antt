@@ -4,11 +4,12 @@
 --   tight                a cell is no larger than in any table that allows the same timetables or more
 --   implied-of, -to      all timetables of the table keep a rule exactly when one cell says so
 --   implied-no, -yes     the same of a list of rules and the test `implied`
+--   implied-append       two lists of rules, one after the other: both are implied
 --   latest-far, latest-most   the latest time of a point is attained by `far` from the origin, and no timetable is later there
 --   soonest-fits, soonest-origin, soonest-least   the earliest times are a timetable together, and no timetable is sooner anywhere
-use mathlib.Core.Path.{_≡_, refl, ap}
-use mathlib.Core.Bool.{Bool, true, false, _&&_}
-use mathlib.Core.List.{List, [], _∷_}
+use mathlib.Core.Path.{_≡_, refl, sym, _∙_, ap}
+use mathlib.Core.Bool.{Bool, true, false, _&&_, and-assoc}
+use mathlib.Core.List.{List, [], _∷_, _++_}
 use Prim.Native.Nat.{ℕ, _+_, _≤_, _<_}
 use native.Mathlib.Omega.{arith}
 use lib.Dec.{T, leb}
@@ -93,6 +94,13 @@ implied-no n c (r ∷ rs) cl w k =
     go false e rest =
         let fails : bias + r .slack < c (r .late) (r .early) + r .more = leb-false _ _ e in
         absurd (omega (arith, implied-of n c r cl (w .0) (w .1) (λ t o f. k t o f .0)))
+
+pub implied-append : (c : Table) (rs ss : List Rule) → implied c (rs ++ ss) ≡ (implied c rs && implied c ss)
+unfolding implied
+implied-append c [] ss = refl
+implied-append c (r ∷ rs) ss =
+    let here : Bool = leb (c (r .late) (r .early) + r .more) (bias + r .slack) in
+    ap (_&&_ here) (implied-append c rs ss) ∙ sym (and-assoc here (implied c rs) (implied c ss))
 
 -- ---- the earliest times
 

@@ -1,0 +1,309 @@
+-- Laws of the rows, of a list that they are laid over, and of what a report comes to.
+--   length-laid, laid-none, laid-more   the list stays as long as it was; no row stored; the next row stored
+--   laid-in, laid-beyond     what a reader of the list finds: a row, or what was there
+--   row-here, row-on         row k of a list of jobs is one of the first job's, or one of the others'
+--   length-rows              there is a row for each point but the origin
+--   found                    row k is that of point k, in number order
+--   stored-none, stored-more, stored-all   rows stored in an array of 64, one after the other
+--   Left                     the search for row x: left-start, left-here, left-next, left-end, as the loop needs them
+--   sound-sized              a board that passes the test has few jobs and points
+--   listed-not, listed-sound what is listed of a board
+--   asked-short, asked-room  what a report comes to, by the room;  asked-fits: no more rows are stored than there are, and than there is room for
+--   asked-is                 with the rows stored, it is what is defined
+use Prim.Native.Nat.{ℕ, zero, suc, _+_, _-_, _≤_, _<_}
+use mathlib.Core.Path.{_≡_, refl, sym, _∙_, ap}
+use mathlib.Core.Bool.{Bool, true, false, _&&_}
+use mathlib.Core.List.{List, [], _∷_, _++_}
+use native.Mathlib.Omega.{arith}
+use native.Mathlib.Decide.{decLt}
+use lib.ListN.{length, getD, set, take, drop, replicate}
+use lib.Dec.{ltb}
+use borrow.Author.Tests.{ltb-false, lt-ltb, le-ltb}
+use Rattle.rulings.specs.declared.Ruling.the-variants.{Accepted}
+use Rattle.rulings.specs.Answer.{refuse}
+use Rattle.plain.specs.declared.Job.{Job}
+use Rattle.plain.specs.Plain.{total}
+use Rattle.lines.specs.Held.{jobsOf, noJob}
+use Rattle.lines.specs.Asked.{Sized}
+use Rattle.lines.specs.Padded.{padded}
+use Rattle.lines.proofs.Padded.{length-padded, padded-none, take-padded}
+use Rattle.stn.specs.Table.{Table, earliest, latest}
+use Rattle.lists.proofs.AllBelow.{both-true}
+use Rattle.gaps.specs.Cells.{tableOf}
+use Rattle.gaps.specs.GapTable.{isGapTable}
+use Rattle.sound.specs.declared.Board.{Board}
+use Rattle.sound.specs.Sound.{pointsOf, allOf, sizedNumbers, sizedJobs, sizedLine, sentFrom, stillSent, sound}
+use Rattle.sound.proofs.Soundness.{jobs-sized}
+use Rattle.board.specs.Calls.{refusal}
+use Rattle.report.specs.declared.Row.{Row}
+use Rattle.report.specs.declared.Listed.{Listed}
+use Rattle.report.specs.Rows.{rowOf, jobRows, rowsFrom, rowsIn, rowsOf, laid, reported, noRow, listed, asked}
+
+-- ---- a list laid over another
+
+pub length-laid : (rs l : List Row) → length (laid rs l) ≡ length l
+unfolding laid
+length-laid [] l = refl
+length-laid (r ∷ rs) [] = refl
+length-laid (r ∷ rs) (x ∷ l) = ap suc (length-laid rs l)
+
+pub laid-none : (rs l : List Row) → laid (take 0 rs) l ≡ l
+unfolding laid
+laid-none [] l = refl
+laid-none (r ∷ rs) l = refl
+
+pub laid-more :
+    (rs l : List Row) (k : ℕ) → k < length rs → k < length l → set (laid (take k rs) l) k (getD rs k noRow) ≡ laid (take (suc k) rs) l
+unfolding laid
+laid-more [] l k h w = absurd (omega arith)
+laid-more (r ∷ rs) [] k h w = absurd (omega arith)
+laid-more (r ∷ rs) (x ∷ l) zero h w = ap (_∷_ r) (sym (laid-none rs l))
+laid-more (r ∷ rs) (x ∷ l) (suc k) h w = ap (_∷_ r) (laid-more rs l k (omega arith) (omega arith))
+
+-- what a reader of the list finds
+pub laid-in : (rs l : List Row) (k : ℕ) (z : Row) → k < length rs → k < length l → getD (laid rs l) k z ≡ getD rs k z
+unfolding laid
+laid-in [] l k z h w = absurd (omega arith)
+laid-in (r ∷ rs) [] k z h w = absurd (omega arith)
+laid-in (r ∷ rs) (x ∷ l) zero z h w = refl
+laid-in (r ∷ rs) (x ∷ l) (suc k) z h w = laid-in rs l k z (omega arith) (omega arith)
+
+pub laid-beyond : (rs l : List Row) (k : ℕ) (z : Row) → length rs ≤ k → getD (laid rs l) k z ≡ getD l k z
+unfolding laid
+laid-beyond [] l k z h = refl
+laid-beyond (r ∷ rs) [] k z h = refl
+laid-beyond (r ∷ rs) (x ∷ l) zero z h = absurd (omega arith)
+laid-beyond (r ∷ rs) (x ∷ l) (suc k) z h = laid-beyond rs l k z (omega arith)
+
+-- ---- rows
+
+same-row : (c : Table) (p : ℕ) {k m x y : ℕ} → k ≡ m → x ≡ y → rowOf c p k x ≡ rowOf c p m y
+same-row c p e f i = rowOf c p (e i) (f i)
+
+job-row : (c : Table) (p k x n d : ℕ) (more : List Row) → d < n → getD (jobRows c p k x n ++ more) d noRow ≡ rowOf c p (k + d) (x + d)
+unfolding jobRows
+job-row c p k x zero d more h = absurd (omega arith)
+job-row c p k x (suc n) zero more h = same-row c p (omega arith) (omega arith)
+job-row c p k x (suc n) (suc d) more h = job-row c p (suc k) (suc x) n d more (omega arith) ∙ same-row c p (omega arith) (omega arith)
+
+job-over : (c : Table) (p k x n d : ℕ) (more : List Row) → n ≤ d → getD (jobRows c p k x n ++ more) d noRow ≡ getD more (d - n) noRow
+unfolding jobRows
+job-over c p k x zero d more h = ap (λ (m : ℕ). getD more m noRow) (omega arith)
+job-over c p k x (suc n) zero more h = absurd (omega arith)
+job-over c p k x (suc n) (suc d) more h =
+    job-over c p (suc k) (suc x) n d more (omega arith) ∙ ap (λ (m : ℕ). getD more m noRow) (omega arith)
+
+module _ (c : Table) (p x : ℕ) (j : Job) (js : List Job) (k : ℕ) where
+  pub row-here : k < j .points → getD (rowsFrom c p x (j ∷ js)) k noRow ≡ rowOf c p k (x + k)
+  unfolding rowsFrom
+  row-here h = job-row c p 0 x (j .points) k _ h ∙ same-row c p (omega arith) refl
+
+  pub row-on : j .points ≤ k → getD (rowsFrom c p x (j ∷ js)) k noRow ≡ getD (rowsFrom c (suc p) (x + j .points) js) (k - j .points) noRow
+  unfolding rowsFrom
+  row-on h = job-over c p 0 x (j .points) k _ h
+
+pub length-from : (c : Table) (p x : ℕ) (js : List Job) → length (rowsFrom c p x js) ≡ total js
+unfolding jobRows rowsFrom total
+length-from c p x [] = refl
+length-from c p x (j ∷ js) = job-length c p 0 x (j .points) _ ∙ ap (λ (m : ℕ). j .points + m) (length-from c (suc p) (x + j .points) js)
+  where
+    job-length : (c : Table) (p k x n : ℕ) (more : List Row) → length (jobRows c p k x n ++ more) ≡ n + length more
+    job-length c p k x zero more = omega arith
+    job-length c p k x (suc n) more = ap suc (job-length c p (suc k) (suc x) n more) ∙ omega arith
+
+pub length-rows : (l : List ℕ) (js : List Job) → length (rowsIn l js) ≡ total js
+unfolding rowsIn
+length-rows l js = length-from _ 0 1 js
+
+-- Row k of a list of jobs is that of its point k, in number order: so many points come in the jobs before, and in its own job before it.
+pub record Found (c : Table) (p x : ℕ) (js : List Job) (k : ℕ) : Type 0 where
+  pub place : ℕ
+  pub point : ℕ
+  pub row : getD (rowsFrom c p x js) k noRow ≡ rowOf c (p + place) point (x + k)
+  pub number : total (take place js) + point ≡ k
+  pub inside : point < getD js place noJob .points
+
+pub found : (c : Table) (p x : ℕ) (js : List Job) (k : ℕ) → k < total js → Found c p x js k
+unfolding total
+found c p x [] k h = absurd (omega arith)
+found c p x (j ∷ js) k h = go (λ ge. found c (suc p) (x + j .points) js (k - j .points) (omega arith)) (decLt k (j .points))
+  where
+    go : (j .points ≤ k → Found c (suc p) (x + j .points) js (k - j .points)) → Dec (k < j .points) → Found c p x (j ∷ js) k
+    go later (yes lt) =
+        let same : p ≡ p + 0 = omega arith in
+        record {
+          place = 0;
+          point = k;
+          row = row-here c p x j js k lt ∙ (λ i. rowOf c (same i) k (x + k));
+          number = omega arith;
+          inside = lt;
+        }
+    go later (no ge) =
+        let r = later (omega arith) in
+        let place : suc p + r .place ≡ p + suc (r .place) = omega arith in
+        let number : x + j .points + (k - j .points) ≡ x + k = omega arith in
+        record {
+          place = suc (r .place);
+          point = r .point;
+          row = row-on c p x j js k (omega arith) ∙ r .row ∙ (λ i. rowOf c (place i) (r .point) (number i));
+          number = let rest = r .number in omega (arith, rest);
+          inside = r .inside;
+        }
+
+-- ---- rows stored in an array, one after the other
+
+take-none : (rs : List Row) → [] ≡ take 0 rs
+take-none [] = refl
+take-none (r ∷ rs) = refl
+
+take-nil : (k : ℕ) → _≡_ {A = List Row} (take k []) []
+take-nil zero = refl
+take-nil (suc k) = refl
+
+pub stored-none : (rs : List Row) (r : Row) → r ≡ noRow → replicate 64 r ≡ padded 64 noRow (take 0 rs)
+stored-none rs r e = ap (replicate 64) e ∙ padded-none 64 noRow ∙ ap (padded 64 noRow) (take-none rs)
+
+-- a place past the end is stored too: it stays as it was
+padded-next : (n : ℕ) (rs : List Row) (k : ℕ) → k < n → set (padded n noRow (take k rs)) k (getD rs k noRow) ≡ padded n noRow (take (suc k) rs)
+unfolding padded
+padded-next zero rs k h = absurd (omega arith)
+padded-next (suc n) [] zero h = refl
+padded-next (suc n) [] (suc k) h =
+    ap (λ (l : List Row). noRow ∷ set (padded n noRow l) k noRow) (sym (take-nil k))
+    ∙ ap (_∷_ noRow) (padded-next n [] k (omega arith) ∙ ap (padded n noRow) (take-nil (suc k)))
+padded-next (suc n) (r ∷ rs) zero h = ap (λ (l : List Row). r ∷ padded n noRow l) (take-none rs)
+padded-next (suc n) (r ∷ rs) (suc k) h = ap (_∷_ r) (padded-next n rs k (omega arith))
+
+pub stored-more :
+    (rs l : List Row) (k : ℕ) (r : Row) → l ≡ padded 64 noRow (take k rs) → r ≡ getD rs k noRow → k < 64
+    → set l k r ≡ padded 64 noRow (take (k + 1) rs)
+stored-more rs l k r e f h =
+    (λ i. set (e i) k (f i)) ∙ padded-next 64 rs k h ∙ ap (λ (m : ℕ). padded 64 noRow (take m rs)) {x = suc k} {y = k + 1} (omega arith)
+
+padded-whole : (n k : ℕ) (rs : List Row) → n ≤ k → padded n noRow (take k rs) ≡ padded n noRow rs
+unfolding padded
+padded-whole zero k rs h = refl
+padded-whole (suc n) k [] h = ap (padded (suc n) noRow) (take-nil k)
+padded-whole (suc n) zero (r ∷ rs) h = absurd (omega arith)
+padded-whole (suc n) (suc k) (r ∷ rs) h = ap (_∷_ r) (padded-whole n k rs (omega arith))
+
+pub stored-all : (rs l : List Row) (k : ℕ) → l ≡ padded 64 noRow (take k rs) → 64 ≤ k → l ≡ padded 64 noRow rs
+stored-all rs l k e h = e ∙ padded-whole 64 k rs h
+
+-- ---- the search for row x: k more rows on from the first point of the job at `place`
+
+abbrev pub Left : List ℕ → List Job → ℕ → ℕ → ℕ → Type 0
+Left l js x place k =
+    (k ≤ x) × (getD (rowsIn l js) x noRow ≡ getD (rowsFrom (tableOf l) place (suc x - k) (drop place js)) k noRow)
+
+module _ (l : List ℕ) (js : List Job) (x : ℕ) where
+  pub left-start : Left l js x 0 x
+  unfolding rowsIn
+  left-start = (omega arith, ap (λ (y : ℕ). getD (rowsFrom (tableOf l) 0 y js) x noRow) {x = 1} {y = suc x - x} (omega arith))
+
+  module _ (place k : ℕ) (left : Left l js x place k) where
+    pub left-here :
+        (j : Job) (rest : List Job) (e f : ℕ) → drop place js ≡ j ∷ rest → k < j .points → e ≡ earliest (tableOf l) (x + 1)
+        → f ≡ latest (tableOf l) (x + 1) → record { job = place; point = k; earliest = e; latest = f } ≡ getD (rowsIn l js) x noRow
+    left-here j rest e f next h early late =
+        let c = tableOf l in
+        let at : suc x - k + k ≡ x + 1 = omega (arith, left .0) in
+        let found = left .1 ∙ ap (λ (r : List Job). getD (rowsFrom c place (suc x - k) r) k noRow) next ∙ row-here c place (suc x - k) j rest k h in
+        (λ i. record { job = place; point = k; earliest = early i; latest = late i }) ∙ same-row c place refl (sym at) ∙ sym found
+
+    pub left-next : (j : Job) → drop place js ≡ j ∷ drop (place + 1) js → j .points ≤ k → Left l js x (place + 1) (k - j .points)
+    left-next j next h =
+        let c = tableOf l in
+        let y : suc x - k + j .points ≡ suc x - (k - j .points) = omega (arith, left .0, h) in
+        let p : suc place ≡ place + 1 = omega arith in (
+          omega (arith, left .0),
+          left .1
+              ∙ ap (λ (r : List Job). getD (rowsFrom c place (suc x - k) r) k noRow) next
+              ∙ row-on c place (suc x - k) j (drop (place + 1) js) k h
+              ∙ (λ i. getD (rowsFrom c (p i) (y i) (drop (place + 1) js)) (k - j .points) noRow),
+        )
+
+    pub left-end : drop place js ≡ [] → noRow ≡ getD (rowsIn l js) x noRow
+    unfolding rowsFrom
+    left-end over = sym (left .1 ∙ ap (λ (r : List Job). getD (rowsFrom (tableOf l) place (suc x - k) r) k noRow) over)
+
+-- ---- a board's rows
+
+pub sound-sized : (b : Board) → sound b ≡ true → Sized (b .jobs)
+unfolding sound
+sound-sized b h =
+    let n = pointsOf b in
+    let js = jobsOf (b .jobs) in
+    let rest =
+    allOf (sizedLine n) (b .lines) && (sentFrom true js && (isGapTable (b .gaps) (suc n) (b .horizon) && stillSent (b .gaps) 1 js)) in
+    let p = both-true (sizedNumbers (b .horizon) (b .lead) (b .clock)) (sizedJobs (b .jobs) && rest) h in
+    jobs-sized (b .jobs) (both-true (sizedJobs (b .jobs)) rest (p .1) .0)
+
+module _ (b : Board) where
+  pub rows-few : sound b ≡ true → length (rowsOf b) ≤ 64
+  rows-few h = omega (arith, length-rows (b .gaps) (jobsOf (b .jobs)), sound-sized b h .points)
+
+  pub listed-not : (r : Row) → sound b ≡ false → r ≡ noRow → record { ruling = refuse 6; count = 0; rows = replicate 64 r } ≡ listed b
+  unfolding listed
+  listed-not r h e = rw h (λ i. record { ruling = refuse 6; count = 0; rows = (ap (replicate 64) e ∙ padded-none 64 noRow) i })
+
+  pub listed-sound :
+      (n : ℕ) (l : List Row) → sound b ≡ true → n ≡ pointsOf b → l ≡ padded 64 noRow (rowsOf b)
+      → record { ruling = Accepted; count = n; rows = l } ≡ listed b
+  unfolding listed
+  listed-sound n l h e f =
+      rw h (λ i. record { ruling = Accepted; count = (e ∙ sym (length-rows (b .gaps) (jobsOf (b .jobs)))) i; rows = f i })
+
+  listed-few : (listed b .count ≤ 64) × (length (listed b .rows) ≡ 64)
+  unfolding listed
+  listed-few = go (sound b) refl
+    where
+      go : (t : Bool) → sound b ≡ t → (listed b .count ≤ 64) × (length (listed b .rows) ≡ 64)
+      go true e = rw e (rows-few e, length-padded 64 noRow (rowsOf b))
+      go false e = rw e (omega arith, length-padded 64 noRow [])
+
+  -- ---- a report
+
+  pub asked-short :
+      (room : ℕ) (l : Listed) → l ≡ listed b → room < l .count → record { stores = 0; listed = l; ruled = refusal b 22 } ≡ asked b room
+  unfolding asked
+  asked-short room l e h =
+      let less : room < listed b .count = omega (arith, h, ap (λ (m : Listed). m .count) e) in
+      rw (lt-ltb room (listed b .count) less) (λ i. record { stores = 0; listed = e i; ruled = refusal b 22 })
+
+  pub asked-room :
+      (room : ℕ) (l : Listed) → l ≡ listed b → l .count ≤ room
+      → record { stores = l .count; listed = l; ruled = record { ruling = l .ruling; board = b } } ≡ asked b room
+  unfolding asked
+  asked-room room l e h =
+      let fits : listed b .count ≤ room = omega (arith, h, ap (λ (m : Listed). m .count) e) in
+      rw (le-ltb room (listed b .count) fits)
+      (λ i. record { stores = e i .count; listed = e i; ruled = record { ruling = e i .ruling; board = b } })
+
+  pub asked-fits : (room : ℕ) → (asked b room .stores ≤ 64) × (asked b room .stores ≤ room) × (length (asked b room .listed .rows) ≡ 64)
+  unfolding asked
+  asked-fits room = go (ltb room (listed b .count)) refl
+    where
+      go :
+          (t : Bool) → ltb room (listed b .count) ≡ t
+          → (asked b room .stores ≤ 64) × (asked b room .stores ≤ room) × (length (asked b room .listed .rows) ≡ 64)
+      go true e = rw e (omega arith, omega arith, listed-few .1)
+      go false e = rw e (listed-few .0, ltb-false room (listed b .count) e, listed-few .1)
+
+  -- what is asked, with the rows stored, is what is defined
+  pub asked-is :
+      (l : List Row)
+      → (asked b (length l) .ruled ≡ reported b l .ruled)
+      × (laid (take (asked b (length l) .stores) (asked b (length l) .listed .rows)) l ≡ reported b l .rows)
+  unfolding asked listed reported
+  asked-is l = go (sound b) refl (ltb (length l) (length (rowsOf b))) refl
+    where
+      Goal : Type 0
+      Goal =
+          (asked b (length l) .ruled ≡ reported b l .ruled)
+          × (laid (take (asked b (length l) .stores) (asked b (length l) .listed .rows)) l ≡ reported b l .rows)
+
+      go : (t : Bool) → sound b ≡ t → (u : Bool) → ltb (length l) (length (rowsOf b)) ≡ u → Goal
+      go false e u f = rw (e, le-ltb (length l) 0 (omega arith)) (refl, laid-none (padded 64 noRow []) l)
+      go true e true f = rw (e, f) (refl, laid-none (padded 64 noRow (rowsOf b)) l)
+      go true e false f = rw (e, f) (refl, ap (λ (rs : List Row). laid rs l) (take-padded 64 noRow (rowsOf b) (rows-few e)))

@@ -1,0 +1,107 @@
+-- Laws of the test that points that leave are over by the clock c.
+--   ends-stays, ends-goes      a use of a point that stays, and of one that leaves
+--   ends-split, lines-split    the first of a line's uses and the others; the first line and the others
+--   usesEnd, linesEnd          the tests of a list of uses, and of lines
+--   uses-next, uses-end        the loop over the uses of a line;  lines-next, lines-end: over the lines
+--   last-late, last-over       the last point after the clock, and by it
+use mathlib.Core.Path.{_≡_, refl, sym, _∙_, ap}
+use mathlib.Core.Bool.{Bool, true, false, cond, _&&_, and-true, and-assoc}
+use mathlib.Core.List.{List, [], _∷_, append-nil}
+use Prim.Native.Nat.{ℕ, _+_, _≤_, _<_}
+use native.Mathlib.Omega.{arith}
+use native.Mathlib.Numerals.{add-one}
+use lib.Dec.{leb}
+use lib.ListN.{length, getD, drop, drop-of-length-le}
+use lib.Seq.{drop-cons}
+use borrow.Author.Tests.{le-leb, lt-leb}
+use Rattle.plain.specs.declared.Rule.{Rule}
+use Rattle.plain.specs.declared.Use.{Use}
+use Rattle.plain.specs.Plain.{goes, notAfter, endOf, endsBy, allEndBy}
+use Rattle.lines.specs.declared.Line.{Line}
+use Rattle.lines.specs.Held.{lineOf, linesOf, noLine}
+use Rattle.stn.specs.Table.{bias, implied}
+use Rattle.stn.proofs.Fits.{implied-append}
+use Rattle.gaps.specs.Cells.{cell, tableOf}
+use Rattle.gaps.proofs.Overlaid.{origin-row}
+
+-- ---- a loop that goes down a list with `ok = ok & test`. Its invariant: the flag, and the test of what is left, are together the test of
+-- the whole list
+
+module _
+    {A : Type 0} (one : A → Bool) (all : List A → Bool) (split : (a : A) (l : List A) → all (a ∷ l) ≡ (one a && all l)) (l : List A) (k : ℕ)
+    (ok : Bool) (is : (ok && all (drop k l)) ≡ all l) where
+  flag-next : (a : A) (test : Bool) → drop k l ≡ a ∷ drop (k + 1) l → test ≡ one a → (ok && test && all (drop (k + 1) l)) ≡ all l
+  flag-next a test e t =
+      ap (λ (b : Bool). ok && b && all (drop (k + 1) l)) t
+      ∙ and-assoc ok (one a) (all (drop (k + 1) l))
+      ∙ ap (_&&_ ok) (sym (split a (drop (k + 1) l)))
+      ∙ ap (λ (q : List A). ok && all q) (sym e)
+      ∙ is
+
+  flag-end : drop k l ≡ [] → all [] ≡ true → ok ≡ all l
+  flag-end e z = sym (and-true ok) ∙ ap (_&&_ ok) (sym z) ∙ ap (λ (q : List A). ok && all q) (sym e) ∙ is
+
+-- ---- the test
+
+module _ (l : List ℕ) (c f m : ℕ) where
+  abbrev pub usesEnd : List Use → Bool
+  usesEnd us = implied (tableOf l) (endsBy c f m us)
+
+  abbrev pub linesEnd : List Line → Bool
+  linesEnd ls = implied (tableOf l) (allEndBy c f m (linesOf ls))
+
+  pub ends-stays : (u : Use) → goes f m (u .point) ≡ false → true ≡ usesEnd (u ∷ [])
+  unfolding endsBy implied
+  ends-stays u e = rw e
+
+  pub ends-goes :
+      (u : Use) → goes f m (u .point) ≡ true
+      → leb (getD l (u .point) 0 + endOf u) (bias + c) ≡ usesEnd (u ∷ [])
+  unfolding endsBy implied
+  ends-goes u e = rw (e, origin-row l (u .point), and-true)
+
+  ends-split :
+      (u : Use) (us : List Use) → usesEnd (u ∷ us) ≡ (usesEnd (u ∷ []) && usesEnd us)
+  unfolding endsBy
+  ends-split u us =
+      let here : List Rule = cond (goes f m (u .point)) (record { early = u .point; more = endOf u; late = 0; slack = c } ∷ []) [] in
+      implied-append (tableOf l) here (endsBy c f m us)
+      ∙ ap (λ (rs : List Rule). implied (tableOf l) rs && implied (tableOf l) (endsBy c f m us)) (sym (append-nil here))
+
+  lines-split :
+      (q : Line) (ls : List Line) → linesEnd (q ∷ ls) ≡ (usesEnd (lineOf q) && linesEnd ls)
+  unfolding allEndBy
+  lines-split q ls = implied-append (tableOf l) (endsBy c f m (lineOf q)) (allEndBy c f m (linesOf ls))
+
+  -- ---- the loops
+
+  pub uses-next :
+      (us : List Use) (k : ℕ) (ok : Bool) → (ok && usesEnd (drop k us)) ≡ usesEnd us → (u : Use) (test : Bool)
+      → drop k us ≡ u ∷ drop (k + 1) us → test ≡ usesEnd (u ∷ []) → (ok && test && usesEnd (drop (k + 1) us)) ≡ usesEnd us
+  uses-next = flag-next (λ u. usesEnd (u ∷ [])) usesEnd ends-split
+
+  pub uses-end : (us : List Use) (k : ℕ) (ok : Bool) → (ok && usesEnd (drop k us)) ≡ usesEnd us → drop k us ≡ [] → ok ≡ usesEnd us
+  unfolding endsBy implied
+  uses-end us k ok is e = flag-end (λ u. usesEnd (u ∷ [])) usesEnd ends-split us k ok is e refl
+
+  pub lines-next :
+      (ls : List Line) (k : ℕ) (ok : Bool) → (ok && linesEnd (drop k ls)) ≡ linesEnd ls → (test : Bool) → k < length ls
+      → test ≡ usesEnd (lineOf (getD ls k noLine)) → (ok && test && linesEnd (drop (k + 1) ls)) ≡ linesEnd ls
+  lines-next ls k ok is test h t =
+      let left : drop k ls ≡ getD ls k noLine ∷ drop (k + 1) ls = rw (add-one k) (drop-cons ls k noLine h) in
+      flag-next (λ q. usesEnd (lineOf q)) linesEnd lines-split ls k ok is (getD ls k noLine) test left t
+
+  pub lines-end : (ls : List Line) (k : ℕ) (ok : Bool) → (ok && linesEnd (drop k ls)) ≡ linesEnd ls → length ls ≤ k → ok ≡ linesEnd ls
+  unfolding allEndBy implied
+  lines-end ls k ok is h = flag-end (λ q. usesEnd (lineOf q)) linesEnd lines-split ls k ok is (drop-of-length-le ls h) refl
+
+-- ---- the last point
+
+module _ (l : List ℕ) (c x : ℕ) (rs : List Rule) where
+  pub last-late : bias + c < getD l x 0 → false ≡ implied (tableOf l) (notAfter x c ∷ rs)
+  unfolding implied notAfter
+  last-late h = rw (lt-leb (cell l 0 x + 0) (bias + c) (omega (arith, origin-row l x)))
+
+  pub last-over : getD l x 0 ≤ bias + c → implied (tableOf l) rs ≡ implied (tableOf l) (notAfter x c ∷ rs)
+  unfolding implied notAfter
+  last-over h = rw (le-leb (cell l 0 x + 0) (bias + c) (omega (arith, origin-row l x)))

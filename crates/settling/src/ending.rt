@@ -1,0 +1,65 @@
+// Whether points that leave, the m points from f on, are over by the clock in every timetable: the last of them, and each use of them. The
+// rules that say so are not collected: each is looked up in the table where it would be made.
+use lines::Line;
+use lines::goes;
+use plain::Use;
+ghost use mathlib.Core.Path.{_≡_};
+ghost use mathlib.Core.List.{[], _∷_};
+ghost use Prim.Native.Nat.{_+_, _-_, _≤_};
+ghost use Rattle.plain.specs.Plain.{notAfter, endsBy, allEndBy};
+ghost use Rattle.lines.specs.Held.{lineOf, linesOf};
+ghost use Rattle.lines.specs.Asked.{Short, AllShort, Lined};
+ghost use Rattle.stn.specs.Table.{implied};
+ghost use Rattle.gaps.specs.Cells.{tableOf};
+ghost use Rattle.settling.specs.Ending.{InReach};
+
+const BIAS: u32 = 100_000_000;
+
+// A use of a point that leaves ends by the clock; nothing is asked of one that stays.
+fn use_ends(t: &[u32], clock: u32, f: u32, m: u32, u: Use) -> bool
+    requires { ⌜ InReach (now t) clock f m × Short u ⌝ }
+    ensures { λ r. ⌜ r ≡ implied (tableOf (now (t .entry))) (endsBy clock f m (u ∷ [])) ⌝ }
+{
+    if !goes(f, m, u.point) {
+        return true;
+    }
+    let at = u.point as usize;
+    t[at] + (u.offset + u.length) <= BIAS + clock
+}
+
+// Each use of a line.
+fn line_ends(t: &[u32], clock: u32, f: u32, m: u32, line: Line) -> bool
+    requires { ⌜ InReach (now t) clock f m × (line .count ≤ 32) × AllShort (lineOf line) ⌝ }
+    ensures { λ r. ⌜ r ≡ implied (tableOf (now (t .entry))) (endsBy clock f m (lineOf line)) ⌝ }
+{
+    let mut ok = true;
+    for k in 0..line.count {
+        let u = line.uses[k];
+        ok = ok & use_ends(t, clock, f, m, u);
+    }
+    ok
+}
+
+// Each use of all lines.
+fn lines_end(t: &[u32], clock: u32, f: u32, m: u32, lines: [Line; 16]) -> bool
+    requires { ⌜ InReach (now t) clock f m × Lined lines ⌝ }
+    ensures { λ r. ⌜ r ≡ implied (tableOf (now (t .entry))) (allEndBy clock f m (linesOf lines)) ⌝ }
+{
+    let mut ok = true;
+    for k in 0..16 {
+        ok = ok & line_ends(t, clock, f, m, lines[k]);
+    }
+    ok
+}
+
+// The last point and each use of the points that leave end by the clock.
+pub fn are_over(t: &[u32], clock: u32, f: u32, m: u32, lines: [Line; 16]) -> bool
+    requires { ⌜ InReach (now t) clock f m × (1 ≤ m) × Lined lines ⌝ }
+    ensures { λ r. ⌜ r ≡ implied (tableOf (now (t .entry))) (notAfter (f + m - 1) clock ∷ allEndBy clock f m (linesOf lines)) ⌝ }
+{
+    let last = (f + m - 1) as usize;
+    if BIAS + clock < t[last] {
+        return false;
+    }
+    lines_end(t, clock, f, m, lines)
+}
