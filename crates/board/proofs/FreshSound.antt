@@ -5,12 +5,13 @@
 use Prim.Native.Nat.{ℕ, zero, suc, _+_, _*_, _≤_, _<_}
 use mathlib.Core.Path.{_≡_, refl, sym, _∙_, ap}
 use mathlib.Core.Logic.{_⊎_, inl, inr}
-use mathlib.Core.Bool.{Bool, true, false, false≢true, _||_}
+use mathlib.Core.Bool.{true, false, _||_}
 use mathlib.Core.List.{List, [], _∷_}
 use native.Mathlib.Omega.{arith}
 use lib.ListN.{getD, set, replicate}
 use lib.Dec.{ltb}
 use borrow.Author.Tests.{ltb-false}
+use Rattle.rulings.proofs.Laws.{neither}
 use Rattle.plain.specs.Plain.{total}
 use Rattle.lines.specs.Held.{lineOf, linesFrom, noLine}
 use Rattle.stn.specs.Table.{bias}
@@ -71,10 +72,6 @@ fresh-table H =
 
 -- ---- the board
 
-either-false : (a b : Bool) → (a || b) ≡ false → (a ≡ false) × (b ≡ false)
-either-false true b h = absurd (false≢true (sym h))
-either-false false b h = (refl, h)
-
 empty-count : (n k : ℕ) → getD (linesFrom (emptyLines n)) k noLine .count ≡ 0
 unfolding emptyLines
 empty-count zero k = refl
@@ -91,8 +88,8 @@ module _ (s : Settings) (good : badSettings s ≡ false) where
   pub fresh-sound : Sound (freshBoard s)
   unfolding badSettings freshBoard fresh total
   fresh-sound =
-      let p = either-false (ltb (s .horizon) 1) (ltb 100000000 (s .horizon) || ltb 1000000 (s .lead)) good in
-      let q = either-false (ltb 100000000 (s .horizon)) (ltb 1000000 (s .lead)) (p .1) in
+      let p = neither (ltb (s .horizon) 1) (ltb 100000000 (s .horizon) || ltb 1000000 (s .lead)) good in
+      let q = neither (ltb 100000000 (s .horizon)) (ltb 1000000 (s .lead)) (p .1) in
       record {
         horizon = (ltb-false (s .horizon) 1 (p .0), ltb-false 100000000 (s .horizon) (q .0));
         lead = ltb-false 1000000 (s .lead) (q .1);

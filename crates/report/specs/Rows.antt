@@ -7,10 +7,12 @@
 --   reported b l       the answer to a report into the list l: ruling and board, and the list after the call
 --   listed b           the rows by value, in an array with 0 past them;  noRow: what a place past them holds
 --   asked b room       what a report into a list of `room` rows comes to, before anything is stored
-use Prim.Native.Nat.{ℕ, zero, suc, _+_}
+--   reportedFront b n l    a report into the first n rows of the array l: the answer, and the array after the call
+--   reportedInto b room l  the same into `room` rows of an array of 64, all of them where there is room for more;  packed: the record of the two
+use Prim.Native.Nat.{ℕ, zero, suc, _+_, min}
 use mathlib.Core.Bool.{cond, not}
 use mathlib.Core.List.{List, [], _∷_, _++_}
-use lib.ListN.{length}
+use lib.ListN.{length, take, drop}
 use lib.Dec.{ltb}
 use Rattle.rulings.specs.declared.Ruling.the-variants.{Accepted}
 use Rattle.rulings.specs.Answer.{refuse}
@@ -26,6 +28,7 @@ use Rattle.board.specs.Calls.{refusal}
 use Rattle.report.specs.declared.Row.{Row}
 use Rattle.report.specs.declared.Listed.{Listed}
 use Rattle.report.specs.declared.Asked.{Asked}
+use Rattle.report.specs.declared.Reported.{Reported}
 
 -- ---- the rows
 
@@ -83,3 +86,15 @@ unfoldable pub asked : Board → ℕ → Asked
 asked b room =
     cond (ltb room (listed b .count)) (record { stores = 0; listed = listed b; ruled = refusal b 22 })
     (record { stores = listed b .count; listed = listed b; ruled = record { ruling = listed b .ruling; board = b } })
+
+-- ---- into the front of an array
+
+abbrev pub packed : Ruled → List Row → Reported
+packed r l = record { ruled = r; rows = l }
+
+-- the rows past the n first are not lent, and stay as they were
+unfoldable pub reportedFront : Board → ℕ → List Row → Reported
+reportedFront b n l = packed (reported b (take n l) .ruled) (reported b (take n l) .rows ++ drop n l)
+
+unfoldable pub reportedInto : Board → ℕ → List Row → Reported
+reportedInto b room l = reportedFront b (min room 64) l

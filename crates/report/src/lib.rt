@@ -3,6 +3,9 @@
 // `rows_of` gives them by value. `report` writes them into a list that the caller lends: it and `fill`, which stores, take a lent list of
 // structs, which the borrow checker does not cover, so that each is proved by a walk of its code. They are kept as thin as can be: `ask` rules,
 // gives the rows and says how many are to be stored, none where it refuses.
+//
+// `report_into` is the report for callers that are to be covered: an array comes in and goes out by value, and the front of it is the list.
+// `report_front`, which lends it, is walked too.
 use board::Ruled;
 use gaps::earliest;
 use gaps::latest;
@@ -13,11 +16,11 @@ use rulings::Ruling;
 use sound::Board;
 use sound::is_sound;
 ghost use mathlib.Core.Path.{_≡_};
-ghost use Prim.Native.Nat.{_≤_, _<_};
+ghost use Prim.Native.Nat.{_≤_, _<_, min};
 ghost use lib.ListN.{length, getD, take};
 ghost use Rattle.lines.specs.Held.{jobsOf};
 ghost use Rattle.lines.specs.Padded.{padded};
-ghost use Rattle.report.specs.Rows.{noRow, rowsIn, laid, listed, asked, reported};
+ghost use Rattle.report.specs.Rows.{noRow, rowsIn, laid, listed, asked, reported, packed, reportedFront, reportedInto};
 
 // A point's row: its job's place, its place in the job, and its earliest and latest times.
 pub struct Row {
@@ -31,6 +34,12 @@ pub struct Row {
 pub struct Listed {
     pub ruling: Ruling,
     pub count: usize,
+    pub rows: [Row; 64],
+}
+
+// The answer to a report into an array, and the array after it.
+pub struct Reported {
+    pub ruled: Ruled,
     pub rows: [Row; 64],
 }
 
@@ -162,4 +171,40 @@ pub fn report(b: Board, rows: &mut [Row]) -> Ruled
     let a = ask(b, rows.len());
     fill(a.listed, a.stores, rows);
     a.ruled
+}
+
+// ---- into the front of an array
+
+fn pack(ruled: Ruled, rows: [Row; 64]) -> Reported
+    ensures { λ r. ⌜ r ≡ packed ruled rows ⌝ }
+{
+    Reported { ruled, rows }
+}
+
+// The report into the first n rows of an array.
+fn report_front(b: Board, n: usize, mut rows: [Row; 64]) -> Reported
+    requires { ⌜ n ≤ 64 ⌝ }
+    ensures { λ r. ⌜ r ≡ reportedFront b n rows ⌝ }
+{
+    let ruled = report(b, &mut rows[..n]);
+    pack(ruled, rows)
+}
+
+// How many rows of an array are lent where there is room for so many.
+fn within(room: u32) -> usize
+    ensures { λ r. ⌜ r ≡ min room 64 ⌝ }
+{
+    if room < 64 {
+        return room as usize;
+    }
+    64
+}
+
+// The report into a list of `room` rows, all 64 where there is room for more, that stands in front of an array: the array comes back. Nothing is
+// lent across the call, so that its callers are covered.
+pub fn report_into(b: Board, room: u32, rows: [Row; 64]) -> Reported
+    ensures { λ r. ⌜ r ≡ reportedInto b room rows ⌝ }
+{
+    let n = within(room);
+    report_front(b, n, rows)
 }

@@ -7,6 +7,7 @@ use borrow.Author.Tests.{not-true, not-false}
 use borrow.Author.Needs.{needs}
 use Prim.Native.Nat.{suc}
 use Rattle.plain.specs.Plain.{liveCount}
+use Rattle.lines.specs.Held.{offerOf}
 use Rattle.board.proofs.OnSound.{sized, lined}
 use Rattle.board.proofs.Planned.{stopped, going, asked, none-left, joined}
 use Rattle.board.proofs.planning.plan_job.Statement.{statement}
@@ -41,7 +42,7 @@ try-grown-requires : tie.Need-try-grown-requires
 unfolding liveCount
 try-grown-requires c κs =
     let p = c .before .before .before .before .before .before .before .before .pre in
-    let g = going (c .before .before .before .before .before .before .before .before .args .b) _ _ (c .before .before .before .before .draft .ensures (c .before .before .before .before .before .before .before .before .args .b .horizon)) (p .0) (p .5) (p .4) (c .before .before .enum-told .given .1) in
+    let g = going (c .before .before .before .before .before .before .before .before .args .b) (offerOf (c .before .before .before .before .before .before .before .before .args .batch) (c .before .before .before .before .before .before .before .before .args .steps) (c .before .before .before .before .before .before .before .before .args .puts)) _ (c .before .before .before .before .draft .ensures (c .before .before .before .before .before .before .before .before .args .b .horizon)) (p .0) (p .5) (p .4) (c .before .before .enum-told .given .1) in
     asked g _ _ (c .before .live-count .ensures) (add-one _ ∙ ap suc (p .1)) (p .0)
 
 refused-requires-2 : tie.Need-refused-requires-2
@@ -51,7 +52,7 @@ returns-2 : tie.Need-returns-2
 unfolding liveCount
 returns-2 c =
     let p = c .before .before .before .before .before .before .before .before .before .before .before .before .pre in
-    let g = going (c .before .before .before .before .before .before .before .before .before .before .before .before .args .b) _ _ (c .before .before .before .before .before .before .before .before .draft .ensures (c .before .before .before .before .before .before .before .before .before .before .before .before .args .b .horizon)) (p .0) (p .5) (p .4) (c .before .before .before .before .before .before .enum-told .given .1) in
+    let g = going (c .before .before .before .before .before .before .before .before .before .before .before .before .args .b) (offerOf (c .before .before .before .before .before .before .before .before .before .before .before .before .args .batch) (c .before .before .before .before .before .before .before .before .before .before .before .before .args .steps) (c .before .before .before .before .before .before .before .before .before .before .before .before .args .puts)) _ (c .before .before .before .before .before .before .before .before .draft .ensures (c .before .before .before .before .before .before .before .before .before .before .before .before .args .b .horizon)) (p .0) (p .5) (p .4) (c .before .before .before .before .before .before .enum-told .given .1) in
     c .refused2 .ensures
     ∙ none-left g _ _ (c .before .before .before .before .before .live-count .ensures) (add-one _ ∙ ap suc (p .1)) _ _ (c .before .before .before .try-grown .ensures) (not-true _ (c .before .if1 .taken))
 
@@ -59,7 +60,7 @@ returns-3 : tie.Need-returns-3
 unfolding liveCount
 returns-3 c =
     let p = c .before .before .before .before .before .before .before .before .before .before .before .before .before .before .pre in
-    let g = going (c .before .before .before .before .before .before .before .before .before .before .before .before .before .before .args .b) _ _ (c .before .before .before .before .before .before .before .before .before .before .draft .ensures (c .before .before .before .before .before .before .before .before .before .before .before .before .before .before .args .b .horizon)) (p .0) (p .5) (p .4) (c .before .before .before .before .before .before .before .before .enum-told .given .1) in
+    let g = going (c .before .before .before .before .before .before .before .before .before .before .before .before .before .before .args .b) (offerOf (c .before .before .before .before .before .before .before .before .before .before .before .before .before .before .args .batch) (c .before .before .before .before .before .before .before .before .before .before .before .before .before .before .args .steps) (c .before .before .before .before .before .before .before .before .before .before .before .before .before .before .args .puts)) _ (c .before .before .before .before .before .before .before .before .before .before .draft .ensures (c .before .before .before .before .before .before .before .before .before .before .before .before .before .before .args .b .horizon)) (p .0) (p .5) (p .4) (c .before .before .before .before .before .before .before .before .enum-told .given .1) in
     joined g _ _ (c .before .before .before .before .before .before .before .live-count .ensures) (add-one _ ∙ ap suc (p .1)) _ _ (c .before .before .before .before .before .try-grown .ensures) _ _ (not-false _ (c .before .before .before .if1 .left)) refl refl
 
 pub plan-job-spec : {M : Type 1} → statement M
