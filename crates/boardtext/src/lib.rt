@@ -15,7 +15,7 @@ ghost use lib.ListN.{length};
 const BIAS: u32 = 100_000_000;
 
 // Puts a blank and the number.
-fn put_next(out: &mut [u8], at: usize, n: u32) -> usize {
+pub fn put_next(out: &mut [u8], at: usize, n: u32) -> usize {
     let blank = put(out, at, b" ");
     put_number(out, blank, n as u64)
 }
@@ -26,16 +26,16 @@ fn put_next(out: &mut [u8], at: usize, n: u32) -> usize {
 pub fn put_table(out: &mut [u8], at: usize, board: Board) -> usize {
     let jobs = board.jobs;
     let gaps = board.gaps;
-    let n = live(jobs);
+    let n = live(jobs) + 1;
     let head = put(out, at, b"table");
     let count = put_next(out, head, n as u32);
     let end = put(out, count, b"\n");
     put_rows(out, end, &gaps, n)
 }
 
-// The live points with the origin, at most 65. What is left of the 64 goes down, so that no sum can wrap.
-fn live(jobs: Jobs) -> usize
-    ensures { λ r. ⌜ r ≤ 65 ⌝ }
+// The live points beside the origin, at most 64. What is left of the 64 goes down, so that no sum can wrap.
+pub fn live(jobs: Jobs) -> usize
+    ensures { λ r. ⌜ r ≤ 64 ⌝ }
 {
     let mut left = 64;
     let n = least(jobs.count, 16);
@@ -43,7 +43,7 @@ fn live(jobs: Jobs) -> usize
         let job = jobs.jobs[k];
         left -= least(job.points as usize, left);
     }
-    65 - left
+    64 - left
 }
 
 fn put_rows(out: &mut [u8], at: usize, gaps: &[u32], n: usize) -> usize

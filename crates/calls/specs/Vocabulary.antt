@@ -6,9 +6,9 @@ use mathlib.Core.Path.{_≡_}
 use mathlib.Core.Logic.{_⊎_}
 use mathlib.Core.List.{List, [], _∷_}
 use Rattle.calls.specs.declared.vocabulary.Word.{Word}
-use Rattle.calls.specs.declared.vocabulary.Word.the-variants.{List as ListWord, Plant, Check, Part, Fact, Fresh, Board, Plan, Send, Clock, Table, State, Unknown}
+use Rattle.calls.specs.declared.vocabulary.Word.the-variants.{List as ListWord, Plant, Check, Part, Fact, Fresh, Board, Plan, Send, Clock, Retire, Report, Table, State, Unknown}
 
--- `list`, `plant`, `check`, `part`, `fact`, `fresh`, `board`, `plan`, `send`, `clock`, `table`, `state`; no bytes are the name of no call
+-- `list`, `plant`, `check`, `part`, `fact`, `fresh`, `board`, `plan`, `send`, `clock`, `retire`, `report`, `table`, `state`; no bytes are the name of no call
 abbrev pub nameOf : Word → List ℕ
 nameOf ListWord = 108 ∷ 105 ∷ 115 ∷ 116 ∷ []
 nameOf Plant = 112 ∷ 108 ∷ 97 ∷ 110 ∷ 116 ∷ []
@@ -20,6 +20,8 @@ nameOf Board = 98 ∷ 111 ∷ 97 ∷ 114 ∷ 100 ∷ []
 nameOf Plan = 112 ∷ 108 ∷ 97 ∷ 110 ∷ []
 nameOf Send = 115 ∷ 101 ∷ 110 ∷ 100 ∷ []
 nameOf Clock = 99 ∷ 108 ∷ 111 ∷ 99 ∷ 107 ∷ []
+nameOf Retire = 114 ∷ 101 ∷ 116 ∷ 105 ∷ 114 ∷ 101 ∷ []
+nameOf Report = 114 ∷ 101 ∷ 112 ∷ 111 ∷ 114 ∷ 116 ∷ []
 nameOf Table = 116 ∷ 97 ∷ 98 ∷ 108 ∷ 101 ∷ []
 nameOf State = 115 ∷ 116 ∷ 97 ∷ 116 ∷ 101 ∷ []
 nameOf Unknown = []

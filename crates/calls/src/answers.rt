@@ -3,6 +3,7 @@ ghost use Rattle.calls.specs.Texts.{lineText, partText};
 ghost use Rattle.text.specs.Written.{Written};
 use crate::faults::Fault;
 use crate::faults::put_fault;
+use crate::reports::put_report;
 use boardtext::put_state;
 use boardtext::put_table;
 use plant::allocations;
@@ -24,6 +25,8 @@ pub enum Answer {
     Ruling(Ruling),
     // `= 0 HEX`: the part of the plant file with this action's allocations.
     Part(u32),
+    // `= 0 N` and the rows of a report into a list of so many.
+    Report(u32),
     // `table N` and the gaps.
     Table,
     // `state CLOCK JOBS`, the jobs and the lines.
@@ -56,6 +59,7 @@ pub fn put_answer(
         Answer::Line => put_line(out, at, line),
         Answer::Ruling(ruling) => put_ruling(out, at, ruling),
         Answer::Part(action) => put_part(out, at, allocations(plant, action)),
+        Answer::Report(room) => put_report(out, at, board, room),
         Answer::Table => put_table(out, at, board),
         Answer::State => put_state(out, at, board),
         Answer::Wrong(fault) => put_fault(out, at, row, fault),

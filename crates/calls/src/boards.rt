@@ -1,15 +1,17 @@
-// The calls that change the board.
+// The calls on the board.
 use crate::MOST_BYTES;
 use crate::answer;
 use crate::answers::Answer;
 use crate::faults::Fault;
 use crate::hex_fault;
+use crate::reports::report_turn;
 use crate::vocabulary::Word;
 use board::Ruled;
 use board::Settings;
 use board::clock;
 use board::fresh;
 use board::plan;
+use board::retire;
 use board::send;
 use boardwords::BOARD_BYTES;
 use boardwords::decode;
@@ -46,6 +48,8 @@ pub fn rule_on_board(word: Word, argument: &[u8], plant: &[u8], board: Board) ->
         Word::Plan => plan_turn(argument, plant, board),
         Word::Send => send_turn(argument, board),
         Word::Clock => clock_turn(argument, board),
+        Word::Retire => ruled_turn(retire(board)),
+        Word::Report => report_turn(argument, board),
         _ => turn_to(board, answer(word, argument, plant)),
     }
 }
@@ -60,7 +64,7 @@ fn wrong_turn(board: Board, fault: Fault) -> Turn {
     turn_to(board, Answer::Wrong(fault))
 }
 
-fn turn_to(board: Board, answer: Answer) -> Turn {
+pub fn turn_to(board: Board, answer: Answer) -> Turn {
     Turn { board, answer }
 }
 

@@ -13,6 +13,8 @@ pub enum Fault {
     BadHex,
     ManyBytes,
     BoardBytes,
+    ManyRows,
+    RowsWritten,
     LongLine,
 }
 
@@ -31,7 +33,7 @@ fn put_why(out: &mut [u8], at: usize, fault: Fault) -> usize {
         Fault::UnknownWord => put(
             out,
             at,
-            b"the line begins with no known word: use list, plant, check, part, fact, fresh, board, plan, send, clock, table or state",
+            b"the line begins with no known word: use list, plant, check, part, fact, fresh, board, plan, send, clock, retire, report, table or state",
         ),
         Fault::MissingWord => put(out, at, b"a word is missing: see what the call takes"),
         Fault::ExtraWord => put(
@@ -61,6 +63,12 @@ fn put_why(out: &mut [u8], at: usize, fault: Fault) -> usize {
             out,
             at,
             b"the bytes are not as many as a board has: use 23316, four for each of its 5829 words",
+        ),
+        Fault::ManyRows => put(out, at, b"the rows are too many: use at most 64"),
+        Fault::RowsWritten => put(
+            out,
+            at,
+            b"the report wrote past its rows: the program is wrong, and its rows are not to be trusted",
         ),
         Fault::LongLine => put(out, at, b"the line is too long: use at most 65535 bytes"),
     }

@@ -1,11 +1,12 @@
 // The calls of a log, one line each: what a line asks for, and the text of its answer.
 //
 // A line is ruled on first (`rule_line`), which may change the plant and the board and writes nothing; then its
-// answer is written (`put_answer`). A new call is a word of `vocabulary`, an arm of `rule_on_board` where it changes
-// the board and of `answer` where it does not, and an arm of `put_answer` where it answers in a new form.
+// answer is written (`put_answer`). A new call is a word of `vocabulary`, an arm of `rule_on_board` where it is made on
+// the board and of `answer` where it is not, and an arm of `put_answer` where it answers in a new form.
 mod answers;
-mod boards; // the calls that change the board
+mod boards; // the calls on the board
 mod faults;
+mod reports; // the report
 mod vocabulary;
 
 pub use answers::Answer;

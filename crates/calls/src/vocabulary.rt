@@ -13,6 +13,8 @@ pub enum Word {
     Plan,
     Send,
     Clock,
+    Retire,
+    Report,
     Table,
     State,
     Unknown,
@@ -51,6 +53,12 @@ pub fn word_of(s: &[u8]) -> Word
     if same(s, b"clock") {
         return Word::Clock;
     }
+    if same(s, b"retire") {
+        return Word::Retire;
+    }
+    if same(s, b"report") {
+        return Word::Report;
+    }
     if same(s, b"table") {
         return Word::Table;
     }
@@ -65,6 +73,7 @@ pub fn word_of(s: &[u8]) -> Word
 pub fn arguments(word: Word, blanks: usize) -> usize {
     match word {
         Word::Check => 0,
+        Word::Retire => 0,
         Word::Table => 0,
         Word::State => 0,
         Word::Fresh => 2,

@@ -43,6 +43,8 @@ pub trait BoardCalls: Default {
     fn send(&mut self, place: u32) -> Result<(), Refusal>;
     fn clock(&mut self, to: u32) -> Result<(), Refusal>;
     fn retire(&mut self) -> Result<(), Refusal>;
+    /// The rows, for a list with room for so many.
+    fn report(&self, room: u32) -> Result<Vec<Row>, Refusal>;
     /// Takes a board made by hand.
     fn take(&mut self, board: &Board);
     /// The board as it stands.
@@ -80,6 +82,15 @@ pub struct Use {
     pub point: u32,
     pub offset: u32,
     pub length: u32,
+}
+
+/// A row of the report: a live point beside the origin.
+#[derive(Clone, Copy, Debug, Default, PartialEq, Eq)]
+pub struct Row {
+    pub job: u32,
+    pub point: u32,
+    pub earliest: u32,
+    pub latest: u32,
 }
 
 /// The board of a refused fresh: all zeros.

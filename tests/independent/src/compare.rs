@@ -18,6 +18,9 @@ use std::fmt;
 use std::io::{self, BufRead};
 use tally::Tally;
 
+/// How many jobs must have retired from one board for it to count.
+const HUNDREDS: usize = 200;
+
 /// How many differences are told in full.
 const MOST_TOLD: usize = 5;
 
@@ -29,6 +32,8 @@ pub struct Comparison {
     sights: BTreeMap<Sight, usize>,
     differences: usize,
     told: Vec<String>,
+    /// How many jobs have retired from the board that is current.
+    retired: usize,
 }
 
 /// Replays the log and compares answer by answer, both streaming.
@@ -87,6 +92,11 @@ impl Comparison {
     fn count(&mut self, item: &Item, answer: &Answer) {
         if let Answer::Ruling(ruling) = answer {
             self.calls.entry(item.word()).or_default().count(*ruling);
+            self.count_retired(item, *ruling);
+        }
+        if let Answer::Rows(_) = answer {
+            let tally = self.calls.entry(item.word()).or_default();
+            tally.count(Ruling::Accepted);
         }
         for sight in Sight::all_of(answer) {
             self.see(sight);
@@ -96,8 +106,23 @@ impl Comparison {
         }
     }
 
+    /// Counts the jobs that retire from one board, however many others are planned meanwhile.
+    fn count_retired(&mut self, item: &Item, ruling: Ruling) {
+        match item {
+            Item::Fresh(..) => self.retired = 0,
+            Item::Retire if ruling == Ruling::Accepted => {
+                self.retired += 1;
+                if self.retired == HUNDREDS {
+                    self.see(Sight::HundredsRetired);
+                }
+            }
+            _ => {}
+        }
+    }
+
     fn count_by_hand(&mut self, item: &Item, session: &Session) {
         if let Item::Board(_) = item {
+            self.retired = 0;
             match session.board().book() {
                 Ok(_) => self.see(Sight::SoundByHand),
                 Err(_) => self.see(Sight::UnsoundByHand),

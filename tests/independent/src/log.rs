@@ -5,6 +5,8 @@ use std::fmt;
 
 /// The most bytes a `plant` line may have.
 pub const MOST_PLANT_BYTES: usize = 16_384;
+/// The most rows of a list that a log reports into.
+pub const MOST_ROWS: u32 = 64;
 
 /// A line of a call log that asks for something.
 #[derive(Clone, Debug, PartialEq, Eq)]
@@ -29,6 +31,8 @@ pub enum Item {
     Clock(u32),
     /// Retire the oldest job.
     Retire,
+    /// Report into a list of so many rows.
+    Report(u32),
     /// The board from now on, made by hand.
     Board(Board),
     /// Show the gap table.
@@ -51,6 +55,7 @@ impl Item {
             Item::Send(_) => "send",
             Item::Clock(_) => "clock",
             Item::Retire => "retire",
+            Item::Report(_) => "report",
             Item::Board(_) => "board",
             Item::Table => "table",
             Item::State => "state",
@@ -83,6 +88,7 @@ pub fn parse(line: &str) -> Result<Option<Item>, &'static str> {
         ["send", place] => Item::Send(parse_number(place)?),
         ["clock", to] => Item::Clock(parse_number(to)?),
         ["retire"] => Item::Retire,
+        ["report", room] => Item::Report(parse_number(room)?),
         ["board", hex] => Item::Board(parse_board(hex)?),
         ["table"] => Item::Table,
         ["state"] => Item::State,
@@ -90,6 +96,7 @@ pub fn parse(line: &str) -> Result<Option<Item>, &'static str> {
     };
     match &item {
         Item::Plant(file) if file.len() > MOST_PLANT_BYTES => Err("too many bytes"),
+        Item::Report(room) if *room > MOST_ROWS => Err("too many rows"),
         _ => Ok(Some(item)),
     }
 }
@@ -153,7 +160,10 @@ impl fmt::Display for Item {
             Item::Plant(bytes) | Item::Fact(bytes) | Item::Plan(bytes) => {
                 write!(f, "{word} {}", hex(bytes))
             }
-            Item::Part(number) | Item::Send(number) | Item::Clock(number) => {
+            Item::Part(number)
+            | Item::Send(number)
+            | Item::Clock(number)
+            | Item::Report(number) => {
                 write!(f, "{word} {number}")
             }
             Item::Fresh(horizon, lead) => write!(f, "{word} {horizon} {lead}"),
@@ -185,6 +195,8 @@ mod tests {
             Item::Send(16),
             Item::Clock(100_000_001),
             Item::Retire,
+            Item::Report(0),
+            Item::Report(64),
             Item::Board(Board::default()),
             Item::Board(Board::from_words(&[0x0102_0304; BOARD_WORDS])),
             Item::Table,
@@ -211,6 +223,8 @@ mod tests {
             "send",
             "clock -1",
             "retire 0",
+            "report",
+            "report 65",
             "board -",
             &board[..board.len() - 2],
             &board[..board.len() - 8],

@@ -1,6 +1,6 @@
 //! Replays the items of a call log on one current plant and one current board.
 
-use crate::board::{Board, BoardCalls, Definition, State, Table};
+use crate::board::{Board, BoardCalls, Definition, Row, State, Table};
 use crate::facts::fact_check;
 use crate::log::{hex, Item};
 use crate::plant::{allocations, check_plant};
@@ -19,6 +19,7 @@ pub enum Answer<'a> {
     List(&'a str),
     Ruling(Ruling),
     Part(&'a [u8]),
+    Rows(Vec<Row>),
     Table(Board),
     State(Board),
 }
@@ -49,6 +50,10 @@ impl<B: BoardCalls> Session<B> {
             Item::Send(place) => self.board.send(*place).into(),
             Item::Clock(to) => self.board.clock(*to).into(),
             Item::Retire => self.board.retire().into(),
+            Item::Report(room) => match self.board.report(*room) {
+                Ok(rows) => return Some(Answer::Rows(rows)),
+                Err(refusal) => Ruling::Refused(refusal),
+            },
         };
         Some(Answer::Ruling(ruling))
     }
@@ -68,6 +73,14 @@ impl fmt::Display for Answer<'_> {
             Answer::List(name) => write!(f, "list {name}"),
             Answer::Ruling(ruling) => write!(f, "= {ruling}"),
             Answer::Part(part) => write!(f, "= 0 {}", hex(part)),
+            Answer::Rows(rows) => {
+                write!(f, "= 0 {}", rows.len())?;
+                for row in rows {
+                    let [job, point] = [row.job, row.point];
+                    write!(f, "\nr {job} {point} {} {}", row.earliest, row.latest)?;
+                }
+                Ok(())
+            }
             Answer::Table(board) => Table(board).fmt(f),
             Answer::State(board) => State(board).fmt(f),
         }

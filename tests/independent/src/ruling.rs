@@ -47,6 +47,8 @@ pub enum Refusal {
     NoneAfterClock,
     /// 21: there is no job to retire, or it is unsent, or something of it ends after the clock.
     NotRetired,
+    /// 22: the list is shorter than the rows.
+    ShortList,
 }
 
 impl Refusal {
@@ -74,6 +76,7 @@ impl Refusal {
             Refusal::ClockRange => (19, None),
             Refusal::NoneAfterClock => (20, None),
             Refusal::NotRetired => (21, None),
+            Refusal::ShortList => (22, None),
         }
     }
 }

@@ -2,7 +2,7 @@
 //! fast form. Every call tests the whole board for soundness first; a send that is refused with 18
 //! does nothing else.
 
-use independent::board::{fast, BOARD_WORDS};
+use independent::board::{fast, Row, BOARD_WORDS, MOST_POINTS};
 use independent::facts::Facts;
 use independent::generate::draft::{plant_file, ActionDraft, OfferDraft};
 use independent::Ruling;
@@ -28,12 +28,16 @@ extern "C" {
     ) -> u32;
     fn sf_bench_send(words: *const u8, words_len: usize, times: u32, place: u32) -> u32;
     fn sf_bench_clock(words: *const u8, words_len: usize, times: u32, to: u32) -> u32;
+    fn sf_bench_retire(words: *const u8, words_len: usize, times: u32) -> u32;
+    fn sf_bench_report(words: *const u8, words_len: usize, times: u32) -> u32;
 }
 
 enum Call {
     Plan { plant: Vec<u8>, offer: Vec<u8> },
     Send { place: u32 },
     Clock { to: u32 },
+    Retire,
+    Report,
 }
 
 impl Call {
@@ -54,6 +58,8 @@ impl Call {
                 ),
                 Call::Send { place } => sf_bench_send(words, len, times, *place),
                 Call::Clock { to } => sf_bench_clock(words, len, times, *to),
+                Call::Retire => sf_bench_retire(words, len, times),
+                Call::Report => sf_bench_report(words, len, times),
             }
         }
     }
@@ -64,6 +70,13 @@ impl Call {
             Call::Plan { plant, offer } => fast::plan(words, plant, offer),
             Call::Send { place } => fast::send(words, *place),
             Call::Clock { to } => fast::clock(words, *to),
+            Call::Retire => fast::retire(words),
+            Call::Report => {
+                let mut rows = [Row::default(); MOST_POINTS];
+                let reported = fast::report(words, &mut rows);
+                black_box(rows);
+                reported.map(|_| ())
+            }
         };
         Ruling::from(ruled).number()
     }
@@ -101,6 +114,14 @@ impl Work {
         for job in 0..jobs {
             fast::plan(&mut words, &self.plant, &self.offer(job)).expect("a good plan");
         }
+        words
+    }
+
+    /// The same with the oldest job sent, and ended long ago.
+    fn ended_board(&self, jobs: usize) -> Words {
+        let mut words = self.board(jobs);
+        fast::send(&mut words, 0).expect("an unsent job");
+        fast::clock(&mut words, 1_000).expect("time left");
         words
     }
 }
@@ -155,24 +176,28 @@ fn cases() -> Vec<Case> {
         };
         let last = jobs as u32 - 1;
         let calls = [
-            ("soundness", jobs, Call::Send { place: u32::MAX }, 18),
+            (
+                "soundness",
+                work.board(jobs),
+                Call::Send { place: u32::MAX },
+                18,
+            ),
             // The plan of the last job.
-            ("plan", jobs - 1, plan, 0),
-            ("send", jobs, Call::Send { place: last }, 0),
-            ("clock", jobs, Call::Clock { to: 1_000 }, 0),
+            ("plan", work.board(jobs - 1), plan, 0),
+            ("send", work.board(jobs), Call::Send { place: last }, 0),
+            ("clock", work.board(jobs), Call::Clock { to: 1_000 }, 0),
+            ("retire", work.ended_board(jobs), Call::Retire, 0),
+            ("report", work.board(jobs), Call::Report, 0),
         ];
-        cases.extend(calls.map(|(name, jobs_before, call, number)| {
-            let words = work.board(jobs_before);
-            Case {
-                name,
-                jobs,
-                words,
-                bytes: words.iter().flat_map(|word| word.to_le_bytes()).collect(),
-                call,
-                number,
-                product_ns: Vec::new(),
-                independent_ns: Vec::new(),
-            }
+        cases.extend(calls.map(|(name, words, call, number)| Case {
+            name,
+            jobs,
+            words,
+            bytes: words.iter().flat_map(|word| word.to_le_bytes()).collect(),
+            call,
+            number,
+            product_ns: Vec::new(),
+            independent_ns: Vec::new(),
         }));
     }
     cases

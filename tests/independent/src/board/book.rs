@@ -3,7 +3,7 @@
 
 use super::paths::{exists, latest_after, least, Rule};
 use super::{
-    Board, MOST_HORIZON, MOST_JOBS, MOST_LEAD, MOST_POINTS, MOST_USES, RESOURCES, ZERO_GAP,
+    Board, Row, MOST_HORIZON, MOST_JOBS, MOST_LEAD, MOST_POINTS, MOST_USES, RESOURCES, ZERO_GAP,
 };
 use crate::offer::{Allocation, Offer};
 use crate::ruling::Refusal;
@@ -221,6 +221,27 @@ impl RuleBook {
             line.retain(|one| !retired.points.contains(&one.point));
         }
         Ok(())
+    }
+
+    /// Refusal 22. Earliest and latest are the least and the greatest time of all timetables.
+    pub fn report(&self, room: u32) -> Result<Vec<Row>, Refusal> {
+        if self.live_points().len() > room as usize {
+            return Err(Refusal::ShortList);
+        }
+        let windows = self.windows();
+        let mut rows = Vec::new();
+        for (job, place) in self.jobs.iter().zip(0..) {
+            for (&number, point) in job.points.iter().zip(0..) {
+                let (earliest, latest) = windows[number];
+                rows.push(Row {
+                    job: place,
+                    point,
+                    earliest: earliest as u32,
+                    latest: latest as u32,
+                });
+            }
+        }
+        Ok(rows)
     }
 
     /// The live points beside the origin in number order.

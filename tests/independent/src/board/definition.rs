@@ -1,7 +1,7 @@
 //! The current board by the definition: a rule book, or a board that isn't sound.
 
 use super::sound::is_sound;
-use super::{Board, BoardCalls};
+use super::{Board, BoardCalls, Row};
 use crate::facts::check_facts;
 use crate::offer::Offer;
 use crate::plant::Plant;
@@ -63,6 +63,10 @@ impl BoardCalls for Definition {
 
     fn retire(&mut self) -> Result<(), Refusal> {
         self.book_mut()?.retire()
+    }
+
+    fn report(&self, room: u32) -> Result<Vec<Row>, Refusal> {
+        self.book()?.report(room)
     }
 
     fn take(&mut self, board: &Board) {

@@ -5,8 +5,8 @@ mod parts;
 mod table;
 
 use super::{
-    Board, BoardCalls, BOARD_WORDS, MOST_HORIZON, MOST_JOBS, MOST_LEAD, MOST_POINTS, MOST_USES,
-    RESOURCES, SIDE, ZERO_GAP,
+    Board, BoardCalls, Row, BOARD_WORDS, MOST_HORIZON, MOST_JOBS, MOST_LEAD, MOST_POINTS,
+    MOST_USES, RESOURCES, SIDE, ZERO_GAP,
 };
 use crate::facts::check_facts;
 use crate::offer::Offer;
@@ -210,6 +210,28 @@ fn retire_cells(cells: &mut [[u32; SIDE]; SIDE], points: usize, live: usize) {
     cells[live - points..].fill([0; SIDE]);
 }
 
+/// Writes the rows into the front of the lent list and gives their number; a refused report writes
+/// none.
+pub fn report(words: &mut [u32], list: &mut [Row]) -> Result<usize, Refusal> {
+    let board = Parts::of_sound(words)?;
+    let count = board.live - 1;
+    let rows = list.get_mut(..count).ok_or(Refusal::ShortList)?;
+    let mut rows = rows.iter_mut();
+    let mut number = 1;
+    for (job, &[points, _, _]) in (0..board.header[3]).zip(board.jobs.iter()) {
+        for (point, row) in (0..points).zip(&mut rows) {
+            *row = Row {
+                job,
+                point,
+                earliest: ZERO_GAP - board.cells[number][0],
+                latest: board.cells[0][number] - ZERO_GAP,
+            };
+            number += 1;
+        }
+    }
+    Ok(count)
+}
+
 /// A current board in the fast form.
 pub struct Fast(Box<[u32; BOARD_WORDS]>);
 
@@ -239,6 +261,13 @@ impl BoardCalls for Fast {
 
     fn retire(&mut self) -> Result<(), Refusal> {
         retire(&mut self.0[..])
+    }
+
+    fn report(&self, room: u32) -> Result<Vec<Row>, Refusal> {
+        let mut rows = vec![Row::default(); room as usize];
+        let count = report(&mut self.0.clone()[..], &mut rows)?;
+        rows.truncate(count);
+        Ok(rows)
     }
 
     fn take(&mut self, board: &Board) {

@@ -26,7 +26,7 @@ const READ: [Floor; 2] = [
 ];
 
 /// Retire comes last, to be left out of a log without it.
-const BOARD: [Floor; 5] = [
+const BOARD: [Floor; 6] = [
     Floor {
         call: "fresh",
         numbers: &[0, 5],
@@ -48,6 +48,11 @@ const BOARD: [Floor; 5] = [
         ends: &[],
     },
     Floor {
+        call: "report",
+        numbers: &[0, 6, 22],
+        ends: &[],
+    },
+    Floor {
         call: "retire",
         numbers: &[0, 6, 21],
         ends: &[],
@@ -62,7 +67,8 @@ const READ_SIGHTS: [(Sight, usize); 5] = [
     (Sight::ForwardGoalClash, 300),
 ];
 
-const BOARD_SIGHTS: [(Sight, usize); 7] = [
+/// The last one is for logs that retire.
+const BOARD_SIGHTS: [(Sight, usize); 10] = [
     (Sight::Table, 1_000),
     (Sight::State, 1_000),
     (Sight::AllPoints, 50),
@@ -70,6 +76,9 @@ const BOARD_SIGHTS: [(Sight, usize); 7] = [
     (Sight::FullLine, 50),
     (Sight::SoundByHand, 100),
     (Sight::UnsoundByHand, 100),
+    (Sight::AllRows, 20),
+    (Sight::NoRows, 50),
+    (Sight::HundredsRetired, 4),
 ];
 
 /// How often each number of a floor must be seen.
@@ -92,6 +101,7 @@ pub fn floors(kind: Kind) -> &'static [Floor] {
 pub fn sights(kind: Kind) -> &'static [(Sight, usize)] {
     match kind {
         Kind::Read => &READ_SIGHTS,
-        Kind::Board | Kind::Retire => &BOARD_SIGHTS,
+        Kind::Board => &BOARD_SIGHTS[..BOARD_SIGHTS.len() - 1],
+        Kind::Retire => &BOARD_SIGHTS,
     }
 }

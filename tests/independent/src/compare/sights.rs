@@ -1,6 +1,6 @@
 //! What else than numbers a log can show.
 
-use crate::board::{MOST_JOBS, MOST_USES, SIDE};
+use crate::board::{MOST_JOBS, MOST_POINTS, MOST_USES, SIDE};
 use crate::replay::Answer;
 
 #[derive(Clone, Copy, Debug, PartialEq, Eq, PartialOrd, Ord)]
@@ -20,6 +20,12 @@ pub enum Sight {
     FullLine,
     SoundByHand,
     UnsoundByHand,
+    /// A report of all the rows that there can be.
+    AllRows,
+    /// A report of no rows.
+    NoRows,
+    /// A board from which 200 jobs have retired.
+    HundredsRetired,
 }
 
 impl Sight {
@@ -37,6 +43,9 @@ impl Sight {
             Sight::FullLine => "states with a full line",
             Sight::SoundByHand => "sound boards made by hand",
             Sight::UnsoundByHand => "unsound boards made by hand",
+            Sight::AllRows => "reports of 64 rows",
+            Sight::NoRows => "reports of no rows",
+            Sight::HundredsRetired => "boards from which 200 jobs retired",
         }
     }
 
@@ -47,6 +56,11 @@ impl Sight {
             Answer::List(_) | Answer::Ruling(_) => {}
             Answer::Part([]) => sights.push(Sight::EmptyPart),
             Answer::Part(_) => sights.push(Sight::FilledPart),
+            Answer::Rows(rows) => match rows.len() {
+                0 => sights.push(Sight::NoRows),
+                MOST_POINTS => sights.push(Sight::AllRows),
+                _ => {}
+            },
             Answer::Table(board) => {
                 sights.push(Sight::Table);
                 sights.extend((board.live() == SIDE).then_some(Sight::AllPoints));

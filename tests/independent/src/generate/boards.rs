@@ -43,6 +43,9 @@ const SYSTEMATIC: [(&str, Scenario); 15] = [
     ("cells", near::cells),
 ];
 
+/// The lists that come next in a log that retires.
+const RETIRING: [(&str, Scenario); 4] = [("season", random::season); 4];
+
 /// The random lists that take turns after them.
 const RANDOM: [(&str, Scenario); 8] = [
     ("random", random::random),
@@ -78,12 +81,15 @@ fn plan_or_begin_anew(script: &mut Script, offer: Vec<u8>) {
 /// Writes whole lists until there are so many calls.
 pub fn generate(rng: &mut Rng, calls: u64, kind: Kind, out: &mut impl Write) -> io::Result<()> {
     let mut written = 0;
-    let scenarios = SYSTEMATIC.into_iter().chain(RANDOM.into_iter().cycle());
+    let retires = kind == Kind::Retire;
+    let retiring = RETIRING.into_iter().filter(|_| retires);
+    let random = RANDOM.into_iter().cycle();
+    let scenarios = SYSTEMATIC.into_iter().chain(retiring).chain(random);
     for (number, (name, scenario)) in scenarios.enumerate() {
         if written >= calls {
             break;
         }
-        let mut script = Script::new(kind == Kind::Retire);
+        let mut script = Script::new(retires);
         scenario(rng, &mut script);
         script.show();
         writeln!(out, "\n{}", Item::List(format!("{name}-{number}")))?;

@@ -1,10 +1,10 @@
--- `calls::vocabulary::word_of` meets its contract. A test that held says which word it is; twelve that failed say that it is none. Assumes nothing.
+-- `calls::vocabulary::word_of` meets its contract. A test that held says which word it is; fourteen that failed say that it is none. Assumes nothing.
 use mathlib.Core.Bool.{Bool, true, false}
 use mathlib.Core.Logic.{inl, inr}
 use mathlib.Core.List.{List}
 use Rattle.calls.specs.Vocabulary.{nameOf}
 use Rattle.calls.specs.declared.vocabulary.Word.{Word}
-use Rattle.calls.specs.declared.vocabulary.Word.the-variants.{List as ListWord, Plant, Check, Part, Fact, Fresh, Board, Plan, Send, Clock, Table, State, Unknown}
+use Rattle.calls.specs.declared.vocabulary.Word.the-variants.{List as ListWord, Plant, Check, Part, Fact, Fresh, Board, Plan, Send, Clock, Retire, Report, Table, State, Unknown}
 use Prim.Native.Nat.{ℕ}
 use mathlib.Core.Path.{_≡_, refl, sym, _∙_}
 use native.Mathlib.Omega.{arith}
@@ -33,22 +33,26 @@ unknown :
     → IsNot s Plan
     → IsNot s Send
     → IsNot s Clock
+    → IsNot s Retire
+    → IsNot s Report
     → IsNot s Table
     → IsNot s State
     → (v : Word) → s ≡ nameOf v → v ≡ Unknown
-unknown s h1 h2 h3 h4 h5 h6 h7 h8 h9 h10 h11 h12 ListWord e = absurd (h1 e)
-unknown s h1 h2 h3 h4 h5 h6 h7 h8 h9 h10 h11 h12 Plant e = absurd (h2 e)
-unknown s h1 h2 h3 h4 h5 h6 h7 h8 h9 h10 h11 h12 Check e = absurd (h3 e)
-unknown s h1 h2 h3 h4 h5 h6 h7 h8 h9 h10 h11 h12 Part e = absurd (h4 e)
-unknown s h1 h2 h3 h4 h5 h6 h7 h8 h9 h10 h11 h12 Fact e = absurd (h5 e)
-unknown s h1 h2 h3 h4 h5 h6 h7 h8 h9 h10 h11 h12 Fresh e = absurd (h6 e)
-unknown s h1 h2 h3 h4 h5 h6 h7 h8 h9 h10 h11 h12 Board e = absurd (h7 e)
-unknown s h1 h2 h3 h4 h5 h6 h7 h8 h9 h10 h11 h12 Plan e = absurd (h8 e)
-unknown s h1 h2 h3 h4 h5 h6 h7 h8 h9 h10 h11 h12 Send e = absurd (h9 e)
-unknown s h1 h2 h3 h4 h5 h6 h7 h8 h9 h10 h11 h12 Clock e = absurd (h10 e)
-unknown s h1 h2 h3 h4 h5 h6 h7 h8 h9 h10 h11 h12 Table e = absurd (h11 e)
-unknown s h1 h2 h3 h4 h5 h6 h7 h8 h9 h10 h11 h12 State e = absurd (h12 e)
-unknown s h1 h2 h3 h4 h5 h6 h7 h8 h9 h10 h11 h12 Unknown e = refl
+unknown s h1 h2 h3 h4 h5 h6 h7 h8 h9 h10 h11 h12 h13 h14 ListWord e = absurd (h1 e)
+unknown s h1 h2 h3 h4 h5 h6 h7 h8 h9 h10 h11 h12 h13 h14 Plant e = absurd (h2 e)
+unknown s h1 h2 h3 h4 h5 h6 h7 h8 h9 h10 h11 h12 h13 h14 Check e = absurd (h3 e)
+unknown s h1 h2 h3 h4 h5 h6 h7 h8 h9 h10 h11 h12 h13 h14 Part e = absurd (h4 e)
+unknown s h1 h2 h3 h4 h5 h6 h7 h8 h9 h10 h11 h12 h13 h14 Fact e = absurd (h5 e)
+unknown s h1 h2 h3 h4 h5 h6 h7 h8 h9 h10 h11 h12 h13 h14 Fresh e = absurd (h6 e)
+unknown s h1 h2 h3 h4 h5 h6 h7 h8 h9 h10 h11 h12 h13 h14 Board e = absurd (h7 e)
+unknown s h1 h2 h3 h4 h5 h6 h7 h8 h9 h10 h11 h12 h13 h14 Plan e = absurd (h8 e)
+unknown s h1 h2 h3 h4 h5 h6 h7 h8 h9 h10 h11 h12 h13 h14 Send e = absurd (h9 e)
+unknown s h1 h2 h3 h4 h5 h6 h7 h8 h9 h10 h11 h12 h13 h14 Clock e = absurd (h10 e)
+unknown s h1 h2 h3 h4 h5 h6 h7 h8 h9 h10 h11 h12 h13 h14 Retire e = absurd (h11 e)
+unknown s h1 h2 h3 h4 h5 h6 h7 h8 h9 h10 h11 h12 h13 h14 Report e = absurd (h12 e)
+unknown s h1 h2 h3 h4 h5 h6 h7 h8 h9 h10 h11 h12 h13 h14 Table e = absurd (h13 e)
+unknown s h1 h2 h3 h4 h5 h6 h7 h8 h9 h10 h11 h12 h13 h14 State e = absurd (h14 e)
+unknown s h1 h2 h3 h4 h5 h6 h7 h8 h9 h10 h11 h12 h13 h14 Unknown e = refl
 
 slice-aggregate-same : tie.Need-slice-aggregate-same
 slice-aggregate-same c = search needs
@@ -158,22 +162,42 @@ same-requires-12 c κs = search needs
 returns-12 : tie.Need-returns-12
 returns-12 c = inl (c .before .same12 .ensures .0 (c .if12 .taken))
 
+slice-aggregate-same-13 : tie.Need-slice-aggregate-same-13
+slice-aggregate-same-13 c = search needs
+
+same-requires-13 : tie.Need-same-requires-13
+same-requires-13 c κs = search needs
+
 returns-13 : tie.Need-returns-13
-returns-13 c = inr (
+returns-13 c = inl (c .before .same13 .ensures .0 (c .if13 .taken))
+
+slice-aggregate-same-14 : tie.Need-slice-aggregate-same-14
+slice-aggregate-same-14 c = search needs
+
+same-requires-14 : tie.Need-same-requires-14
+same-requires-14 c κs = search needs
+
+returns-14 : tie.Need-returns-14
+returns-14 c = inl (c .before .same14 .ensures .0 (c .if14 .taken))
+
+returns-15 : tie.Need-returns-15
+returns-15 c = inr (
   refl,
   unknown _
-      (differ _ (c .before .before .before .before .before .before .before .before .before .before .before .before .before .before .before .before .before .before .before .before .before .before .before .before .before .before .before .before .before .before .before .before .before .if1 .left) (c .before .before .before .before .before .before .before .before .before .before .before .before .before .before .before .before .before .before .before .before .before .before .before .before .before .before .before .before .before .before .before .before .before .before .same .ensures .1))
-      (differ _ (c .before .before .before .before .before .before .before .before .before .before .before .before .before .before .before .before .before .before .before .before .before .before .before .before .before .before .before .before .before .before .if2 .left) (c .before .before .before .before .before .before .before .before .before .before .before .before .before .before .before .before .before .before .before .before .before .before .before .before .before .before .before .before .before .before .before .same2 .ensures .1))
-      (differ _ (c .before .before .before .before .before .before .before .before .before .before .before .before .before .before .before .before .before .before .before .before .before .before .before .before .before .before .before .if3 .left) (c .before .before .before .before .before .before .before .before .before .before .before .before .before .before .before .before .before .before .before .before .before .before .before .before .before .before .before .before .same3 .ensures .1))
-      (differ _ (c .before .before .before .before .before .before .before .before .before .before .before .before .before .before .before .before .before .before .before .before .before .before .before .before .if4 .left) (c .before .before .before .before .before .before .before .before .before .before .before .before .before .before .before .before .before .before .before .before .before .before .before .before .before .same4 .ensures .1))
-      (differ _ (c .before .before .before .before .before .before .before .before .before .before .before .before .before .before .before .before .before .before .before .before .before .if5 .left) (c .before .before .before .before .before .before .before .before .before .before .before .before .before .before .before .before .before .before .before .before .before .before .same5 .ensures .1))
-      (differ _ (c .before .before .before .before .before .before .before .before .before .before .before .before .before .before .before .before .before .before .if6 .left) (c .before .before .before .before .before .before .before .before .before .before .before .before .before .before .before .before .before .before .before .same6 .ensures .1))
-      (differ _ (c .before .before .before .before .before .before .before .before .before .before .before .before .before .before .before .if7 .left) (c .before .before .before .before .before .before .before .before .before .before .before .before .before .before .before .before .same7 .ensures .1))
-      (differ _ (c .before .before .before .before .before .before .before .before .before .before .before .before .if8 .left) (c .before .before .before .before .before .before .before .before .before .before .before .before .before .same8 .ensures .1))
-      (differ _ (c .before .before .before .before .before .before .before .before .before .if9 .left) (c .before .before .before .before .before .before .before .before .before .before .same9 .ensures .1))
-      (differ _ (c .before .before .before .before .before .before .if10 .left) (c .before .before .before .before .before .before .before .same10 .ensures .1))
-      (differ _ (c .before .before .before .if11 .left) (c .before .before .before .before .same11 .ensures .1))
-      (differ _ (c .if12 .left) (c .before .same12 .ensures .1)),
+      (differ _ (c .before .before .before .before .before .before .before .before .before .before .before .before .before .before .before .before .before .before .before .before .before .before .before .before .before .before .before .before .before .before .before .before .before .before .before .before .before .before .before .if1 .left) (c .before .before .before .before .before .before .before .before .before .before .before .before .before .before .before .before .before .before .before .before .before .before .before .before .before .before .before .before .before .before .before .before .before .before .before .before .before .before .before .before .same .ensures .1))
+      (differ _ (c .before .before .before .before .before .before .before .before .before .before .before .before .before .before .before .before .before .before .before .before .before .before .before .before .before .before .before .before .before .before .before .before .before .before .before .before .if2 .left) (c .before .before .before .before .before .before .before .before .before .before .before .before .before .before .before .before .before .before .before .before .before .before .before .before .before .before .before .before .before .before .before .before .before .before .before .before .before .same2 .ensures .1))
+      (differ _ (c .before .before .before .before .before .before .before .before .before .before .before .before .before .before .before .before .before .before .before .before .before .before .before .before .before .before .before .before .before .before .before .before .before .if3 .left) (c .before .before .before .before .before .before .before .before .before .before .before .before .before .before .before .before .before .before .before .before .before .before .before .before .before .before .before .before .before .before .before .before .before .before .same3 .ensures .1))
+      (differ _ (c .before .before .before .before .before .before .before .before .before .before .before .before .before .before .before .before .before .before .before .before .before .before .before .before .before .before .before .before .before .before .if4 .left) (c .before .before .before .before .before .before .before .before .before .before .before .before .before .before .before .before .before .before .before .before .before .before .before .before .before .before .before .before .before .before .before .same4 .ensures .1))
+      (differ _ (c .before .before .before .before .before .before .before .before .before .before .before .before .before .before .before .before .before .before .before .before .before .before .before .before .before .before .before .if5 .left) (c .before .before .before .before .before .before .before .before .before .before .before .before .before .before .before .before .before .before .before .before .before .before .before .before .before .before .before .before .same5 .ensures .1))
+      (differ _ (c .before .before .before .before .before .before .before .before .before .before .before .before .before .before .before .before .before .before .before .before .before .before .before .before .if6 .left) (c .before .before .before .before .before .before .before .before .before .before .before .before .before .before .before .before .before .before .before .before .before .before .before .before .before .same6 .ensures .1))
+      (differ _ (c .before .before .before .before .before .before .before .before .before .before .before .before .before .before .before .before .before .before .before .before .before .if7 .left) (c .before .before .before .before .before .before .before .before .before .before .before .before .before .before .before .before .before .before .before .before .before .before .same7 .ensures .1))
+      (differ _ (c .before .before .before .before .before .before .before .before .before .before .before .before .before .before .before .before .before .before .if8 .left) (c .before .before .before .before .before .before .before .before .before .before .before .before .before .before .before .before .before .before .before .same8 .ensures .1))
+      (differ _ (c .before .before .before .before .before .before .before .before .before .before .before .before .before .before .before .if9 .left) (c .before .before .before .before .before .before .before .before .before .before .before .before .before .before .before .before .same9 .ensures .1))
+      (differ _ (c .before .before .before .before .before .before .before .before .before .before .before .before .if10 .left) (c .before .before .before .before .before .before .before .before .before .before .before .before .before .same10 .ensures .1))
+      (differ _ (c .before .before .before .before .before .before .before .before .before .if11 .left) (c .before .before .before .before .before .before .before .before .before .before .same11 .ensures .1))
+      (differ _ (c .before .before .before .before .before .before .if12 .left) (c .before .before .before .before .before .before .before .same12 .ensures .1))
+      (differ _ (c .before .before .before .if13 .left) (c .before .before .before .before .same13 .ensures .1))
+      (differ _ (c .if14 .left) (c .before .same14 .ensures .1)),
 )
 
 pub word-of-spec : {M : Type 1} → statement M
@@ -216,4 +240,10 @@ word-of-spec =
     slice-aggregate-same-12
     same-requires-12
     returns-12
-    returns-13)
+    slice-aggregate-same-13
+    same-requires-13
+    returns-13
+    slice-aggregate-same-14
+    same-requires-14
+    returns-14
+    returns-15)

@@ -67,6 +67,7 @@ pub fn invented(rng: &mut Rng, script: &mut Script) {
         }
         script.board(&board);
         script.show();
+        script.reports();
         for _ in 0..6 {
             any_call(rng, script, &press);
         }
@@ -102,6 +103,8 @@ pub fn try_calls(rng: &mut Rng, script: &mut Script, press: &Press, board: &Boar
     let later = board.clock.saturating_add(1);
     script.clock(rng.pick(&[board.clock, later, board.horizon, edge]));
     script.retire();
+    let room = rng.pick(&script.rooms());
+    script.report(room);
     for _ in 0..2 {
         any_call(rng, script, press);
     }

@@ -51,6 +51,7 @@ fn every_call(script: &mut Script) {
     script.clock(0);
     script.clock(u32::MAX);
     script.retire();
+    script.reports();
 }
 
 /// Jobs of each size until there is no room, then again of every size.
@@ -69,6 +70,7 @@ pub fn rooms(_: &mut Rng, script: &mut Script) {
                 script.plan(&chain(&actions, &steps, &[(then_steps % 2) as u32]));
             }
             script.show();
+            script.reports();
         }
     }
     // Just as many points as there is room for, with fewer jobs than that, and one too many.
@@ -89,6 +91,7 @@ pub fn rooms(_: &mut Rng, script: &mut Script) {
         script.show();
         script.send(jobs as u32 - 1);
         script.show();
+        script.reports();
         script.clock(300);
         script.retire();
         script.retire();

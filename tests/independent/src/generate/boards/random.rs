@@ -5,7 +5,7 @@ use super::hand;
 use super::limits::limits;
 use super::press::Press;
 use super::script::Script;
-use crate::board::MOST_JOBS;
+use crate::board::{MOST_HORIZON, MOST_JOBS};
 use crate::generate::damage::{damage_bytes, damage_facts, damage_format};
 use crate::generate::random::bad_plant;
 use crate::generate::rng::Rng;
@@ -49,10 +49,16 @@ pub fn any_call(rng: &mut Rng, script: &mut Script, press: &Press) {
         69..76 => send(rng, script),
         76..86 => clock(rng, script, press),
         86..94 if script.retires => retire(rng, script),
-        94..98 => script.show(),
+        94..97 => script.show(),
+        97 => report(rng, script),
         98 => hand::take_over(rng, script),
         _ => plan(rng, script, press),
     }
+}
+
+fn report(rng: &mut Rng, script: &mut Script) {
+    let room = rng.pick(&script.rooms());
+    script.report(room);
 }
 
 fn plan(rng: &mut Rng, script: &mut Script, press: &Press) {
@@ -142,6 +148,64 @@ fn oldest_end(script: &Script) -> Option<u32> {
     let last = oldest.points.last().map(|&last| windows[last].0);
     // A board made by hand can have all of a job at 0.
     ends.chain(last).max().map(|end| end.max(1) as u32)
+}
+
+/// How many jobs a season retires, and the most rounds it takes for that.
+const SEASON_JOBS: usize = 250;
+const SEASON_ROUNDS: usize = 600;
+
+/// Hundreds of jobs on one board: they come, are sent, end and retire, so that points, lines and
+/// places in the job list are used again and again.
+pub fn season(rng: &mut Rng, script: &mut Script) {
+    let press = willing_press(rng, script);
+    let mut retired = 0;
+    for _ in 0..SEASON_ROUNDS {
+        if retired >= SEASON_JOBS {
+            break;
+        }
+        for _ in 0..1 + rng.below(3) {
+            plan(rng, script, &press);
+        }
+        let jobs = job_count(script);
+        let unsent = script
+            .book()
+            .map_or(0, |book| book.jobs.iter().filter(|job| !job.sent).count());
+        let last = jobs.saturating_sub(1);
+        let place = rng.pick(&[jobs - unsent, last, last]);
+        script.send(place as u32);
+        for _ in 0..1 + rng.below(3) {
+            let before = job_count(script);
+            retire(rng, script);
+            retired += before - job_count(script);
+        }
+        if rng.one_in(25) {
+            script.show();
+            script.reports();
+        }
+    }
+}
+
+/// A press most of whose offers are accepted, tried on a fresh board that the season goes on with.
+/// Its steps are short, so that the horizon is far away.
+fn willing_press(rng: &mut Rng, script: &mut Script) -> Press {
+    loop {
+        let press = Press::random(rng);
+        if press.unit > 300 {
+            continue;
+        }
+        script.plant(press.file());
+        script.fresh(MOST_HORIZON, press.unit);
+        for _ in 0..8 {
+            plan(rng, script, &press);
+        }
+        if job_count(script) >= 5 {
+            return press;
+        }
+    }
+}
+
+fn job_count(script: &Script) -> usize {
+    script.book().map_or(0, |book| book.jobs.len())
 }
 
 /// A day's work: jobs come, are sent, end and, where the list may, retire, over and over.

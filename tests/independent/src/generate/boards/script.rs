@@ -3,7 +3,7 @@
 use crate::board::definition::RuleBook;
 use crate::board::{Board, BoardCalls};
 use crate::generate::draft::OfferDraft;
-use crate::log::Item;
+use crate::log::{Item, MOST_ROWS};
 use crate::replay::{Answer, Session};
 
 pub struct Script {
@@ -64,6 +64,30 @@ impl Script {
     pub fn retire(&mut self) {
         if self.retires {
             self.add(Item::Retire);
+        }
+    }
+
+    pub fn report(&mut self, room: u32) {
+        self.add(Item::Report(room));
+    }
+
+    /// The lengths of lists that matter to a report of the board reached: just too short, just long
+    /// enough, and the shortest and longest.
+    pub fn rooms(&self) -> Vec<u32> {
+        let rows = self.book().map_or(2, |book| {
+            let points = book.jobs.iter().map(|job| job.points.len() as u32);
+            points.sum()
+        });
+        let near = [rows.saturating_sub(1), rows, rows + 1];
+        let mut rooms = vec![0, MOST_ROWS];
+        rooms.extend(near.map(|room| room.min(MOST_ROWS)));
+        rooms
+    }
+
+    /// Reports into a list of each of these lengths.
+    pub fn reports(&mut self) {
+        for room in self.rooms() {
+            self.report(room);
         }
     }
 
