@@ -1,4 +1,4 @@
-# What ./check, ./demo and ./bench share: plain words on what is being done, and a clear stop where something is missing.
+# What ./check, ./demo, ./bench and ./soak share: plain words on what is being done, and a clear stop where something is missing.
 
 say() { printf '\n== %s\n' "$*"; }
 

@@ -1,51 +1,10 @@
 /* Calls sf_fact_check from C: the fact cases of document 01's proving table, and one input for each refusal number. */
+#include "bytes.h"
 #include "snipefeather.h"
 
 #include <stdio.h>
 #include <stdlib.h>
 #include <string.h>
-
-struct bytes {
-    uint8_t at[256];
-    size_t len;
-};
-
-static void word(struct bytes *b, uint32_t v) {
-    for (int i = 0; i < 4; i++)
-        b->at[b->len++] = (uint8_t)(v >> (8 * i));
-}
-
-/* An action record with n allocations of resource 0, offset 0, length 10. */
-static void action(struct bytes *b, uint32_t needs, uint32_t makes, uint32_t unmakes, uint32_t shortest, uint32_t longest, int n) {
-    word(b, needs);
-    word(b, 0);
-    word(b, makes);
-    word(b, unmakes);
-    word(b, shortest);
-    word(b, longest);
-    word(b, (uint32_t)n);
-    for (int k = 0; k < n; k++) {
-        word(b, 0);
-        word(b, 0);
-        word(b, 10);
-    }
-}
-
-/* The plant of the proving table: 120 bytes, index at 96. */
-static struct bytes proving_plant(void) {
-    struct bytes b = {.len = 0};
-    action(&b, 1, 2, 1, 10, 20, 1);
-    action(&b, 2, 4, 2, 5, 5, 0);
-    action(&b, 8, 0, 0, 1, 1, 0);
-    word(&b, 0);
-    word(&b, 40);
-    word(&b, 68);
-    word(&b, 96);
-    word(&b, 3);
-    memcpy(b.at + b.len, "PLNT", 4);
-    b.len += 4;
-    return b;
-}
 
 static struct bytes offer(uint32_t known, uint32_t known_false, uint32_t goal, uint32_t goal_false, uint32_t steps) {
     struct bytes b = {.len = 0};

@@ -14,6 +14,7 @@ pub mod Refused
 pub mod Demand2
 pub mod Lists
 pub mod Demand3
+pub mod Compared
 pub mod Ending
 pub mod TwentyOne
 pub mod Room

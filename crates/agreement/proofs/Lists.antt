@@ -2,7 +2,7 @@
 --   lists-sound    the board after a list of calls is sound, its arrays of their lengths
 --   lists-6        no call of a list gets 6
 --   lists-keep     every run of the rule book has the board's rulings, and its book is beside the board after;  lists-exist: there is one
---   started-is     the board that fresh gives is the fresh board;  fresh-beside: it is beside the fresh book
+--   fresh-beside   the board that fresh gives is beside the fresh book
 --   reached        every run from the fresh book is beside the board after;  agreement: all that specs/Runs says
 use mathlib.Core.Path.{_≡_, refl, sym, ap, ap₂, _∙_}
 use mathlib.Core.Bool.{false}
@@ -92,12 +92,6 @@ module _ (s : Settings) (good : badSettings s ≡ false) where
   unfolding freshBoard fresh emptyLines freshCells zeroCells
   fresh-shaped =
       record { jobs = length-padded 16 noJob []; lines = refl; gaps = length-set zeroCells 0 bias ∙ length-replicate {A = ℕ} 4225 0 }
-
-  pub started-is : started s ≡ freshBoard s
-  unfolding freshRuled
-  started-is =
-      let answer-is : freshRuled s ≡ record { ruling = Accepted; board = freshBoard s } = rw good in
-      ap (λ (r : Ruled). r .board) answer-is
 
   -- what fresh answers is the abstract board at the start
   fresh-answered : Answered (freshRuled s) (record { ruling = Accepted; board = Model.fresh (s .horizon) (s .lead) })

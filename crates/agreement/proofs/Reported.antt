@@ -25,7 +25,8 @@ use Rattle.sound.proofs.Soundness.{sound-to, sound-of}
 use Rattle.board.specs.Boards.{stateOf}
 use Rattle.report.specs.declared.Row.{Row}
 use Rattle.report.specs.Rows.{rowOf, rowsIn, rowsOf, noRow, reported}
-use Rattle.report.proofs.Laws.{found, length-rows, laid-in, laid-beyond}
+use Rattle.report.proofs.Laid.{laid-in, laid-beyond}
+use Rattle.report.proofs.Laws.{found, length-rows}
 use Rattle.demands.proofs.Values.{sim-greatest}
 use Rattle.agreement.specs.Abstract.{Shaped, livePoints}
 use Rattle.agreement.specs.Timetables.{Timetable, GreatestTime, Tells}

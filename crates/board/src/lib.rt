@@ -1,4 +1,5 @@
-// The board's calls. A board goes in by value and comes back by value, so that a refusal is the very board that came.
+// The board's calls. A board goes in by value and comes back by value, so that a refusal is the very board that came. Each call has a form
+// that ends in `_on`: its table is lent where it lies, and only the frame, the rest of the board, goes in and comes back.
 mod clocking; // the clock moved
 mod parts; // what the calls share
 mod planning; // a job planned
@@ -7,11 +8,16 @@ mod sending; // jobs sent
 mod starting; // a fresh board
 
 pub use clocking::clock;
+pub use clocking::clock_on;
 pub use planning::plan;
+pub use planning::plan_on;
 pub use retiring::retire;
+pub use retiring::retire_on;
 use rulings::Ruling;
 pub use sending::send;
+pub use sending::send_on;
 use sound::Board;
+use sound::Frame;
 pub use starting::fresh;
 
 // What a fresh board is made with.
@@ -24,4 +30,10 @@ pub struct Settings {
 pub struct Ruled {
     pub ruling: Ruling,
     pub board: Board,
+}
+
+// The answer to a call whose table was lent: the ruling, and the frame after it.
+pub struct Framed {
+    pub ruling: Ruling,
+    pub frame: Frame,
 }

@@ -1,5 +1,5 @@
 // What a log shows of a board: its gap table, and all else. Any number may stand in a board, so that each count is taken as no more than
-// there are places for.
+// there are places for. It may use text, and the structs of the board (plain, lines, sound).
 use lines::Jobs;
 use lines::Line;
 use plain::Job;
@@ -67,7 +67,7 @@ fn put_row(out: &mut [u8], at: usize, gaps: &[u32], i: usize, n: usize) -> usize
 }
 
 // Puts a blank and the gap that a cell holds: the cell less the bias.
-fn put_gap(out: &mut [u8], at: usize, cell: u32) -> usize {
+pub fn put_gap(out: &mut [u8], at: usize, cell: u32) -> usize {
     if cell < BIAS {
         let sign = put(out, at, b" -");
         return put_number(out, sign, (BIAS - cell) as u64);

@@ -1,2 +1,6 @@
 pub mod Listed
+pub mod Blocks
+pub mod Put
 pub mod Boards
+pub mod Inverse
+pub mod Back

@@ -2,10 +2,16 @@
 -- behind: it starts with `filled-none`, makes its turn by `filled-next` and ends with `filled-done`.
 --   length-listed   as many elements as were asked for
 --   same-listed     the same element n times
+--   listed-same     element by element
+--   listed-at       the elements of a list;  listed-back: a list is listed from them
+--   listed-add      a list in two parts
+--   past            what comes behind a first part
 use Prim.Native.Nat.{ℕ, zero, suc, _+_, _<_}
-use mathlib.Core.Path.{_≡_, refl, sym, _∙_, ap}
-use mathlib.Core.List.{List, [], _∷_, _++_}
-use lib.ListN.{length, set, replicate, length-append}
+use mathlib.Core.Path.{_≡_, refl, sym, _∙_, ap, ap₂}
+use mathlib.Core.List.{List, [], _∷_, _++_, append-nil, append-assoc}
+use lib.ListN.{length, getD, set, replicate, length-append, List·getD-append}
+use lib.Seq.{ext-getD, getD-append-add}
+use native.Mathlib.Decide.{decLt}
 use native.Mathlib.Numerals.{add-one}
 use native.Mathlib.Omega.{arith}
 use Rattle.lines.specs.Padded.{padded}
@@ -51,3 +57,35 @@ module _ {A : Type 0} where
   unfolding listed
   same-listed zero z = refl
   same-listed (suc n) z = sym (replicate-more n z) ∙ ap (λ (l : List A). l ++ (z ∷ [])) (same-listed n z)
+
+  pub past : (l m : List A) (n k : ℕ) (d : A) → n ≡ length l + k → getD (l ++ m) n d ≡ getD m k d
+  past l m n k d e = ap (λ (i : ℕ). getD (l ++ m) i d) e ∙ getD-append-add l m k d
+
+  pub listed-same : (f g : ℕ → A) (n : ℕ) → ((k : ℕ) → k < n → f k ≡ g k) → listed f n ≡ listed g n
+  unfolding listed
+  listed-same f g zero e = refl
+  listed-same f g (suc n) e =
+      ap₂ (λ (l : List A) (a : A). l ++ (a ∷ [])) (listed-same f g n (λ k h. e k (omega arith))) (e n (omega arith))
+
+  pub listed-at : (f : ℕ → A) (n k : ℕ) (d : A) → k < n → getD (listed f n) k d ≡ f k
+  unfolding listed
+  listed-at f zero k d h = absurd (omega arith)
+  listed-at f (suc n) k d h = go (decLt k n) (listed-at f n k d)
+    where
+      go : Dec (k < n) → (k < n → getD (listed f n) k d ≡ f k) → getD (listed f n ++ (f n ∷ [])) k d ≡ f k
+      go (yes lt) before = List·getD-append (listed f n) (f n ∷ []) d k (omega (arith, length-listed f n)) ∙ before lt
+      go (no ge) before =
+          past (listed f n) (f n ∷ []) k 0 d (omega (arith, length-listed f n)) ∙ ap f {x = n} {y = k} (omega arith)
+
+  pub listed-back : (l : List A) (n : ℕ) (d : A) → length l ≡ n → listed (λ k. getD l k d) n ≡ l
+  listed-back l n d e =
+      let len = length-listed (λ k. getD l k d) n in
+      ext-getD d (listed (λ k. getD l k d) n) l (len ∙ sym e) (λ k h. listed-at (λ i. getD l i d) n k d (omega (arith, len)))
+
+  pub listed-add : (f : ℕ → A) (m n : ℕ) → listed f (m + n) ≡ listed f m ++ listed (λ k. f (m + k)) n
+  unfolding listed
+  listed-add f m zero = ap (listed f) {x = m + 0} {y = m} (omega arith) ∙ sym (append-nil (listed f m))
+  listed-add f m (suc n) =
+      ap (listed f) {x = m + suc n} {y = suc (m + n)} (omega arith)
+      ∙ ap (λ (l : List A). l ++ (f (m + n) ∷ [])) (listed-add f m n)
+      ∙ append-assoc (listed f m) (listed (λ k. f (m + k)) n) (f (m + n) ∷ [])

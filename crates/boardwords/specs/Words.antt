@@ -1,18 +1,21 @@
--- The words of a board, in the order of the struct (docs/CALLS.md): horizon, lead, clock, job count; 16 times points, batch, sent; 16 times a
--- line, that is its count and 32 times point, offset, length; 4,225 cells as stored. 5,829 in all, four bytes each.
+-- The words of a board, in the order of the struct (docs/FORMATS.md): horizon, lead, clock, job count; 16 times points, batch, sent; 16 times a
+-- line, that is its count and 32 times point, offset, length; 4,225 cells as stored. 5,829 in all, four bytes each. The first 1,604 are the
+-- board's frame, the cells come behind it.
 -- Words are a function from a word's number, so that a part of the board is that part of any words.
 --   wordAt s k         word k of the bytes s
+--   wordIn l k         word k of the list l; 0 past its end
 --   listed f n         f 0, .., f (n - 1)
 --   jobFrom w at       the job, use, line whose first word is number `at`
 --   jobAt w k          job k, line k, cell k; use k of the line whose uses begin at word `at`
 --   jobsFrom w         all of them;  usesFrom, linesFrom, cellsFrom
 --   marked c k m       of c jobs, job k is past the end or its mark m is 0 or 1;  allMarked w: every job is
---   boardFrom w        the board of these words
+--   frameFrom w        the frame of these words;  boardFrom w: the board
+--   boardIn l          the board of a list of words
 --   decoded s          the board of the bytes s, and whether they are as many as a board has; zeros where they are not
 use Prim.Native.Nat.{ℕ, zero, suc, _+_, _*_}
 use mathlib.Core.Bool.{Bool, true, false, cond, _||_}
 use mathlib.Core.List.{List, [], _∷_, _++_}
-use lib.ListN.{length}
+use lib.ListN.{length, getD}
 use lib.Dec.{eqb, leb}
 use Rattle.words.specs.Word.{word}
 use Rattle.plain.specs.declared.Job.{Job}
@@ -20,6 +23,8 @@ use Rattle.plain.specs.declared.Use.{Use}
 use Rattle.lines.specs.declared.Line.{Line}
 use Rattle.lists.specs.Loops.{allBelow}
 use Rattle.sound.specs.declared.Board.{Board}
+use Rattle.sound.specs.declared.Frame.{Frame}
+use Rattle.sound.specs.Framed.{whole}
 use Rattle.boardwords.specs.declared.Decoded.{Decoded}
 
 abbrev pub Words : Type 0
@@ -28,6 +33,9 @@ Words = ℕ → ℕ
 abbrev pub wordAt : List ℕ → Words
 wordAt s k = word s (4 * k)
 
+abbrev pub wordIn : List ℕ → Words
+wordIn l k = getD l k 0
+
 abbrev pub zeros : Words
 zeros k = 0
 
@@ -35,7 +43,7 @@ unfoldable pub listed : {A : Type 0} → (ℕ → A) → ℕ → List A
 listed f zero = []
 listed f (suc n) = listed f n ++ (f n ∷ [])
 
--- a mark of 1 is sent, 0 unsent; see `boardFrom` for any other
+-- a mark of 1 is sent, 0 unsent; see `frameFrom` for any other
 abbrev pub jobFrom : Words → ℕ → Job
 jobFrom w at = record { points = w at; batch = w (at + 1); sent = eqb (w (at + 2)) 1 }
 
@@ -77,16 +85,21 @@ allMarked w = allBelow (λ k. marked (w 3) k (w (6 + 3 * k))) 16
 
 -- "sent (0 or 1; anything else is no sound board)": such a board gets a horizon of 0, which no sound board has (theorem `unmarked`,
 -- proofs/Boards)
-abbrev pub boardFrom : Words → Board
-boardFrom w =
+abbrev pub frameFrom : Words → Frame
+frameFrom w =
     record {
       horizon = cond (allMarked w) (w 0) 0;
       lead = w 1;
       clock = w 2;
       jobs = record { count = w 3; jobs = jobsFrom w };
       lines = linesFrom w;
-      gaps = cellsFrom w;
     }
+
+abbrev pub boardFrom : Words → Board
+boardFrom w = whole (frameFrom w) (cellsFrom w)
+
+abbrev pub boardIn : List ℕ → Board
+boardIn l = boardFrom (wordIn l)
 
 unfoldable pub decoded : List ℕ → Decoded
 decoded s =

@@ -3,6 +3,9 @@
 // A line is ruled on first (`rule_line`), which may change the plant and the board and writes nothing; then its
 // answer is written (`put_answer`). A new call is a word of `vocabulary`, an arm of `rule_on_board` where it is made on
 // the board and of `answer` where it is not, and an arm of `put_answer` where it answers in a new form.
+//
+// It may use the product's calls and what reads their arguments and writes their answers as text. Files and standard
+// output are for the programs.
 mod answers;
 mod boards; // the calls on the board
 mod faults;

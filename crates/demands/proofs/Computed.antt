@@ -1,5 +1,8 @@
 -- The proving table's test, computed over the whole table. It stands on definitions alone, so that a definition which comes to something else
 -- is refused here. Assumes nothing.
+--   plant-length, offer-length    the bytes are as many as document 01 says
+--   Computes, AllCompute          what is computed of a case, of each of a list
+--   computed, further-computed    both tables compute;  shownOpen: the definitions to unfold for it
 use mathlib.Core.Path.{_≡_, refl}
 use mathlib.Core.Bool.{true}
 use mathlib.Core.List.{List, [], _∷_}

@@ -1,6 +1,7 @@
 -- The proving table holds: one theorem over one table (specs/ProvingTable), from bytes, of the rule book and the fact definition.
 -- Its test is computed over the whole table on the abstract board (proofs/Computed), and one law turns it into what each case says: that the
 -- rule book has such a run, and that every run of it comes to the same. Assumes nothing.
+--   proving-table   document 01's cases;  further-table: cases of our own
 use mathlib.Core.Path.{subst, _∙_}
 use mathlib.Core.List.{List, [], _∷_}
 use borrow.Author.Tests.{leb-true}

@@ -1,8 +1,9 @@
 -- What a case of the proving table says: a board's settings, calls, their rulings, and what else must come of it.
 --   Expect        one thing that must hold at the end
---   Meets k x     it holds of the book k
+--   Meets k x     it holds of the book k;  AllMeet: each of a list.  SameTimetables k j: the same timetables are possible on both books
 --   Case          a row of the table
---   Comes c       the case comes true: the rule book has a run with these rulings, and whatever run is taken has them and meets the rest
+--   Comes c       the case comes true: the rule book has a run with these rulings, and whatever run is taken has them and meets the rest;
+--                 AllCome: each of a list
 use mathlib.Core.Path.{_≡_}
 use mathlib.Core.Logic.{_↔_}
 use mathlib.Core.List.{List, [], _∷_}

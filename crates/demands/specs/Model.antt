@@ -6,7 +6,6 @@
 --   planned, retired what becomes of a draft and of a leaving;  heard: of a reading
 --   sending, clocking   what becomes of a send and of a clock call that pass 18 and 19
 --   step b c         the answer to a call
---   run, rulings     the board after a list of calls, and their rulings
 --   fresh H D        the board at the start;  book s rs, board s c: by their parts
 use mathlib.Core.Bool.{true, false}
 use mathlib.Core.List.{List, [], _∷_}
@@ -79,14 +78,6 @@ step b (plan p o) = heard b (readingOf p o)
 step b (send place) = elim (Plain.unsentAt place (b .state .jobs)) [ true ↦ sending b place | false ↦ refusal b (plain 18) ]
 step b (clock c) = elim (Plain.clockOk (b .state) c) [ true ↦ clocking b c | false ↦ refusal b (plain 19) ]
 step b retire = retired b (Plain.leaving (b .state))
-
-unfoldable pub run : Board → List Call → Board
-run b [] = b
-run b (c ∷ cs) = run (step b c .board) cs
-
-unfoldable pub rulings : Board → List Call → List Ruling
-rulings b [] = []
-rulings b (c ∷ cs) = step b c .ruling ∷ rulings (step b c .board) cs
 
 unfoldable pub fresh : ℕ → ℕ → Board
 fresh H D = board (Rulebook.fresh H D .state) (λ i j. bias)

@@ -1,4 +1,5 @@
-// The fact check as the search calls it, from C (include/snipefeather.h).
+// The fact check as the search calls it, from C (include/snipefeather.h). It may use offer and rulings alone, so that a search that only
+// checks facts links nothing of the board.
 use offer::rule_facts;
 use rulings::number;
 ghost use mathlib.Core.Path.{_≡_};

@@ -1,4 +1,6 @@
 -- Laws of Booleans that the proofs on masks use. Assumes nothing.
+--   clash, not-so                          no Boolean is both; what is not true is false
+--   or-left, or-right, or-cases, and-not   what a test made of two says of them
 use mathlib.Core.Path.{_≡_, refl, sym, _∙_}
 use mathlib.Core.Bool.{Bool, true, false, true≢false, false≢true, not, _&&_, _||_}
 

@@ -1,6 +1,7 @@
 -- One step of the regression against one step forward. Assumes nothing.
 -- The idea: `regressed a l` holds in σ exactly when a's needs hold in σ and l holds in `after a σ`, unless a undoes a fact of l, and
 -- then l holds after a from no state at all. Each fact is one of three kinds: made true, made false, or left as it was.
+--   in-strike, of-strike, join-left, join-right, join-cases   a fact of a struck and of a joined mask
 --   forward    what must hold before is enough
 --   backward   and it is needed
 --   undone     11: no state gets past a step that undoes what is needed (where the action makes no fact both ways)

@@ -1,6 +1,10 @@
 -- The regression against the forward definition, on chains. Assumes nothing.
 --   accepted-runs, runs-accepted   past refusal 10 the ruling is accepted exactly when every full state that fits the known facts runs
 --   clash-runs-not                 a goal with a fact both ways: no state runs, so refusal 10 there agrees with the definition too
+--   Fair chain                     no action makes a fact both ways
+--   Meaning, meaning               what the regression's answer says of every state, and that it does
+--   least, most                    two states in which l holds: all else is false, all else is true (least-holds, most-holds)
+--   lacks-cases, lacks-true, lacks-false   what is lacking at the start, fact by fact
 -- The idea: the regression's answer means something of every state (`Meaning`): what it says must hold, holds exactly in the states
 -- that run; where it says clash, no state runs. At the start two states decide: the one in which all that is unknown is false, and the
 -- one in which it is true.

@@ -1,5 +1,7 @@
 -- Refusal 13, by the forward definition: the fact named is needed and not known so, no lower fact is, and the chain itself is no
 -- impossible one, since some full state runs. Assumes nothing.
+--   Small, SmallNeeds     masks of 32 bits, of a pair and of a chain's needs
+--   Thirteen, thirteen    what refusal 13 with fact k says, and that it does
 -- The idea: what the regression leaves at the start, l, holds exactly in the states that run. A fact of l is therefore needed; and a
 -- fact that is not in l is not needed, since of the two states that hold just l, one has it false and one has it true.
 use Prim.Native.Nat.{ℕ, _+_, _<_, _^_}

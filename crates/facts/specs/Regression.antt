@@ -2,8 +2,9 @@
 --   undoes a l       action a makes false a fact that l has true, or true one that l has false
 --   regressed a l    what must hold before a, where l must hold after it
 --   backOver a k l   step k, whose action is a: 11, 12, or what must hold before it
---   workBack chain k goal   the chain whose first step is number k, last step first
+--   workBack chain k goal   the chain whose first step is number k, last step first;  thenBack: one step more
 --   lacking known l  the facts of l that are not known so
+--   atStart known l  13, where l must hold at the start;  onNeed: what the chain worked back comes to there
 --   factRuling known goal chain   the ruling: 11 and 12 step by step, then 13 with the lowest lacking fact
 use Prim.Native.Nat.{ℕ, _+_}
 use mathlib.Core.List.{List, [], _∷_}

@@ -1,4 +1,5 @@
-// The fact check on a chain: what must hold is worked back from the goal to the start (regression).
+// The fact check on a chain: what must hold is worked back from the goal to the start (regression). The definition that it is held to runs
+// forward (specs/Forward). It may use masks and rulings, and knows nothing of bytes.
 use masks::difference;
 use masks::first;
 use masks::overlap;

@@ -2,6 +2,7 @@
 --   top, lifted-test, joined-test   how `way_holds` tells a fault: a difference that is lifted reaches the top bit, and with all joined the bit
 --                               is there where one has it
 --   inRange-to                  each cell is at most its limit;  inRange-bounded: so sums of live cells are small
+--   bounded-follows             the clause on the bound says no more than the others do
 --   gapTable-to, gapTable-of    the test is true exactly where GapTable holds
 --   gapTable-closed             a good table is closed
 --   added-gapTable              a rule that agrees leaves a good table;  grown-gapTable: and so do new points;  grown-closed: of closed tables alone
@@ -78,6 +79,15 @@ module _ (l : List ℕ) (n : ℕ) where
 
   pub inRange-bounded : n ≤ 65 → inRange l n ≡ true → Bounded n (tableOf l)
   inRange-bounded few h i j hi hj = omega (arith, inRange-to h i j (omega arith) (omega arith), limit-live n i j hi hj)
+
+-- ---- the bound
+
+-- document 01 has no clause on it: from i to j by the origin is no longer than the horizon
+pub bounded-follows :
+    (l : List ℕ) (n H : ℕ) → 0 < n → H ≤ bias
+    → ((i j k : ℕ) → i < n → j < n → k < n → cell l i k + bias ≤ cell l i j + cell l j k)
+    → ((i : ℕ) → i < n → cell l i 0 ≤ bias) → ((i : ℕ) → i < n → cell l 0 i ≤ bias + H) → Bounded n (tableOf l)
+bounded-follows l n H some h triangle floor roof i j hi hj = omega (arith, triangle i 0 j hi some hj, floor i hi, roof j hj)
 
 -- ---- the whole test
 

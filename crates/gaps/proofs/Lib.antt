@@ -3,3 +3,4 @@ pub mod Added
 pub mod Grown
 pub mod GapTable
 pub mod Dropped
+pub mod Copied

@@ -1,4 +1,3 @@
 pub mod Rewritten
-pub mod Part
 pub mod AllBelow
 pub mod All

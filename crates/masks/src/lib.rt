@@ -1,4 +1,5 @@
 // Sets of facts in a u32: bit k stands for fact k (document 01: "one bit per fact, bit 0 for fact 0").
+// It may use no other crate.
 ghost use mathlib.Core.Path.{_≡_};
 ghost use Rattle.masks.specs.Mask.{share, join, strike, lowest};
 

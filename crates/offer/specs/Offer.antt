@@ -1,9 +1,10 @@
 -- The offer: its layout, refusals 7 to 10, the chain that it names, and the fact check. Plant and offer are the lists of their bytes.
 --   batchOf, knownOf, goalOf, stepCount   the header of an offer
+--   placeCount p a     how many places a step of action a has;  placeAt p o k j: the place of allocation j of step k
 --   stepStart p o k    where step k starts; stepEnd p o at: where the step that starts at `at` ends
---   stepAt p o k at    what reading that step finds: where it ends, or refusal 8
+--   stepAt p o k at    what reading that step finds: where it ends, or refusal 8;  stepRuling p o k: the ruling on step k
 --   offerRuling p o    the first of refusals 7 to 9, for a good plant
---   chainOf p o        the actions of the steps, in order
+--   chainOf p o        the actions of the steps, in order;  chainFrom p o k n: of n steps from step k on;  actionOf p a: one action
 --   chainRuling p o    the first of refusals 10 to 13, for an offer that passed 7 to 9
 --   factCheck p o      the first of refusals 1 to 4 and 7 to 13
 use Prim.Native.Nat.{ℕ, zero, suc, _+_, _*_}

@@ -1,4 +1,5 @@
-// The offer: refusals 7 to 10, and the fact check of the chain that it names.
+// The offer: refusals 7 to 10, and the fact check of the chain that it names. The bytes may be any.
+// It may use words, masks, rulings, plant and facts; it knows of no board.
 use facts::Action;
 use facts::Literals;
 use facts::Need;

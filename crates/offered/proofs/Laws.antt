@@ -1,6 +1,10 @@
--- Laws of an offer's steps, read one after the other. Assumes nothing.
---   here, next-at      the step that the reader stands at: its action is the plant's, its bytes lie in the offer; where the next one starts
---   steps-none, steps-next   the steps held so far, and one more
+-- Laws of an offer's steps and allocations, read one after the other. Assumes nothing.
+--   action-within, action-known, record-is, step-within   the step that the reader stands at: its action is the plant's, its bytes lie in the offer
+--   first-at, next-at   where the first step starts, and the next one;  count-at: how many allocations it has
+--   length-steps, steps-none, steps-next, steps-done      the steps held: none, one more, all of them
+--   put-is, held-length, push-is, length-step-puts        an allocation, and one more of them held
+--   StepHeld, step-none, step-count, step-over            the allocations of a step held behind others
+--   PutsHeld, puts-none, puts-tidy, puts-more, puts-done  the allocations of the first steps held: none, one step more, all of them
 use Prim.Native.Nat.{ℕ, zero, suc, _+_, _*_, _≤_, _<_}
 use native.Mathlib.Omega.{arith}
 use native.Mathlib.Numerals.{add-one}

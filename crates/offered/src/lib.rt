@@ -1,5 +1,6 @@
 // The offer as the plain machine takes it: the durations of its steps, and its allocations with their places, copied out of the bytes of
-// a good plant file and a good offer.
+// a good plant file and a good offer. It rules on nothing. It may use the readers (words, plant, offer), the rule book's definition of what
+// an offer says, and the arrays of lines.
 use lines::Puts;
 use lines::Steps;
 use plain::Put;

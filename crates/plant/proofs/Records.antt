@@ -2,7 +2,9 @@
 --   some-bad-..     the allocations one after the other
 --   passes-header   a record whose header passes the index passes it
 --   Placed          what holds of a record that is in its place (not refusal 3)
---   record-ends     reading such a record in range finds its end
+--   last-bound, range-rest   which test decides where all before it pass
+--   record-ends     reading such a record in range finds its end;  Whole, whole: what a record that was read is
+--   start-none, ruling-is, next-start   the first record's start; one record more: its ruling, and where the next has to start
 use Prim.Native.Nat.{ℕ, zero, suc, _+_, _-_, _*_, _≤_, _<_}
 use native.Mathlib.Omega.{arith}
 use native.Mathlib.Numerals.{add-one}

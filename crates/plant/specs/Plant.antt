@@ -2,11 +2,13 @@
 --   isMark s at         the four bytes at `at` are the mark
 --   trailerOf s         index start and action count
 --   badLayout t len     refusal 2, of a file of len bytes with the trailer t
+--   needsTrue .. longest s at   the fields of the record that starts at `at`;  allocationCount s at: its byte n
+--   allocationStart at k        where its allocation k starts;  resource, offset, useLength: the fields of an allocation
 --   recordEnd s at      where the record that starts at `at` ends
 --   recordStart s a     where the record of action a has to start: where the record before ended
---   badRecord s t a at  refusal 3 of action a, whose record has to start at `at`
---   badAction s at      refusal 4 of the action whose record starts at `at`
---   recordAt s t a at   what reading that record finds: where it ends, or the cause
+--   badRecord s t a at  refusal 3 of action a, whose record has to start at `at`;  badHead s at: its count and spare bytes
+--   badAction s at      refusal 4 of the action whose record starts at `at`, by badDuration, badAllocation and someBadAllocation
+--   recordAt s t a at   what reading that record finds: where it ends, or the cause;  recordRuling s a: the ruling on action a
 --   plantRuling s       the first of refusals 1 to 4
 --   allocationsOf s a   the part of a good file that holds the allocations of action a
 use Prim.Native.Nat.{ℕ, zero, suc, _+_, _-_, _*_}

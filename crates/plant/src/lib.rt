@@ -1,4 +1,4 @@
-// The plant file: refusals 1 to 4, and the part that holds an action's allocations.
+// The plant file, of any bytes: refusals 1 to 4, and the part that holds an action's allocations. It may use words, masks and rulings.
 use masks::overlap;
 use rulings::Cause;
 use rulings::Record;

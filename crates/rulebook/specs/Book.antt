@@ -3,11 +3,13 @@
 --   Call               a call's arguments: raw bytes and numbers
 --   Point              a live point by its number, the origin 0; or a retired one
 --   Book               the plain machine's state, and every rule made so far
---   Possible b u       the timetable u over the live points is possible
+--   Possible b u       the timetable u over the live points is possible, completed (`joined`) by numbers for the retired ones
 --   SomePossible b             some timetable is possible
 --   Least, Greatest    the least and the greatest value of a point over the possible timetables
 --   Gap b i j d        d is the largest time of j minus time of i over the possible timetables: entry (i, j) of the gap table
---   Step b c r k       the call c on the book b is ruled r and leaves the book k
+--   Always b rs        every possible timetable keeps these rules
+--   Refuses, Settles, Guarded   a refusal; rules that are made if some timetable keeps them; a test before a step
+--   Step b c r k       the call c on the book b is ruled r and leaves the book k, by Reads and Plans, Sends (AllLeast) and Retires (left)
 --   Runs b cs rs k     a list of calls, their rulings, and the book at the end
 -- Step is a relation, since what exists is not computed here; that each call has one outcome is proved through the board.
 use mathlib.Core.Path.{_≡_}

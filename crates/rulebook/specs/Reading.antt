@@ -1,7 +1,8 @@
 -- What a plan call's bytes come to: an early cause, or an offer. By the definitions of the plant file, the offer and the fact check.
---   stepOf, putOf      a step's durations; an allocation with its place
+--   recordOf p o k     where the record of step k's action starts
+--   stepOf, putOf      a step's durations; an allocation with its place;  stepsFrom, putsOfStep, putsFrom: lists of them
 --   offerOf p o        the offer that a good plant file and a good offer spell
---   readingOf p o      the first of refusals 1 to 4 and 7 to 13, or that offer
+--   readingOf p o      the first of refusals 1 to 4 and 7 to 13, or that offer: a Reading;  onRuling: by the fact check's ruling
 use Prim.Native.Nat.{ℕ, zero, suc, _+_}
 use mathlib.Core.List.{List, [], _∷_, _++_}
 use Rattle.words.specs.Word.{word}

@@ -1,4 +1,10 @@
 -- Laws of rulings and of the order of checks. Assumes nothing.
+--   answer-refused          document 01's number and value are what a refusal was made of
+--   refused-no, fails-no    a refusal is no acceptance; a record that fails does not end
+--   passed, both-passed     what an accepted check says of its parts
+--   neither, last-of-or, last-of-and   tests made one after the other
+--   first-none, first-next, first-ends, first-stops, first-all   the first refusal, check by check
+--   reading-stops, reading-goes-on     a reading record by record: the first that fails decides
 use Prim.Native.Nat.{ℕ, zero, suc, _+_, _<_}
 use native.Mathlib.Omega.{arith}
 use native.Mathlib.Numerals.{add-one}

@@ -2,7 +2,7 @@
 --   hasValue n    document 01's number n has a value: an action, a step, a fact or an allocation
 --   cause n v     the cause that document 01 numbers n, with the value v that goes with that number; `plain n` where it has none
 --   refused n v   the refusal with that cause; `refuse n` where the number has no value
---   answer r      the number and the values of a ruling, as document 01 writes them: 0 for accepted
+--   answer r      the number and the values of a ruling, as document 01 writes them: 0 for accepted;  causeAnswer c: of a cause
 --   numberOf r    the number alone; `isValued r`, `valueOf r`: whether it has a value, and which (0 where none)
 -- Every definition of a ruling says its refusals by these, so which number has which value is said here alone; that `answer` gives back
 -- number and value is the law `answer-refused` (proofs/Laws).

@@ -1,4 +1,5 @@
-// A ruling is accepted, or refused with a cause.
+// A ruling is accepted, or refused with a cause: what every call answers, and the number and value that document 01 gives to each cause.
+// It may use no other crate.
 ghost use mathlib.Core.Path.{_≡_};
 ghost use Rattle.rulings.specs.Answer.{numberOf, isValued, valueOf};
 ghost use Rattle.rulings.specs.Order.{refusalOf};

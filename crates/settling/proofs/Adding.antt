@@ -1,12 +1,14 @@
 -- Laws of rules added one after the other to a closed table. Assumes nothing.
 --   Adding l n rs t left   the table t comes of l by adding rules of rs, and `left` are left to add
 --   begins, stops, goes-on, ends   one law for each place of the loop
+--   all-added, not-added   what the answer of the code says: all rules were added, or not, whatever cells stand there then
 --   usable-wide    a usable rule is usable among more points
 use Prim.Native.Nat.{ℕ, _+_, _≤_}
 use native.Mathlib.Omega.{arith}
 use mathlib.Core.Path.{_≡_, refl, sym, subst, _∙_}
-use mathlib.Core.Bool.{true, false}
+use mathlib.Core.Bool.{Bool, true, false}
 use mathlib.Core.List.{List, [], _∷_}
+use mathlib.Core.Option.{Option}
 use lib.ListN.{length}
 use lib.Dec.{leb}
 use borrow.Author.Tests.{leb-true}
@@ -70,3 +72,11 @@ module _ {l : List ℕ} {n : ℕ} {rs : List Rule} {t : List ℕ} {left : List R
           usable = all-usable .1;
           same = sym (rw (addedAll, f)) ∙ same-here;
         })
+
+module _ (ok : Bool) (m : List ℕ) (o : Option (List ℕ)) (e : outcome ok m ≡ o) where
+  pub all-added : ok ≡ true → outcome true m ≡ o
+  all-added t = subst (λ (z : Bool). outcome z m ≡ o) t e
+
+  pub not-added : ok ≡ false → (x : List ℕ) → outcome false x ≡ o
+  unfolding outcome
+  not-added f x = subst (λ (z : Bool). outcome z m ≡ o) f e

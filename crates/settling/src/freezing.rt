@@ -59,7 +59,7 @@ fn freeze_job(t: &mut [u32], n: usize, x: u32, job: Job)
 }
 
 // The points of the unsent ones among the first `count` jobs.
-fn freeze_jobs(t: &mut [u32], n: usize, jobs: Jobs, count: usize)
+pub fn freeze(t: &mut [u32], n: usize, jobs: Jobs, count: usize)
     requires { ⌜ (length (now t) ≡ 4225) × (n ≡ suc (total (jobsOf jobs))) × Closed n (tableOf (now t)) ⌝ }
     requires { ⌜ Sized jobs × (count ≤ jobs .count) ⌝ }
     ensures { λ _. ⌜ now (t .exit) ≡ frozen n (unsentPoints 1 count (jobsOf jobs)) (now (t .entry)) ⌝ }
@@ -70,15 +70,4 @@ fn freeze_jobs(t: &mut [u32], n: usize, jobs: Jobs, count: usize)
         freeze_job(t, n, x, job);
         x += job.points;
     }
-}
-
-// The same on a copy of the table.
-pub fn freeze(gaps: [u32; 4225], n: usize, jobs: Jobs, count: usize) -> [u32; 4225]
-    requires { ⌜ (n ≡ suc (total (jobsOf jobs))) × Closed n (tableOf gaps) ⌝ }
-    requires { ⌜ Sized jobs × (count ≤ jobs .count) ⌝ }
-    ensures { λ r. ⌜ r ≡ frozen n (unsentPoints 1 count (jobsOf jobs)) gaps ⌝ }
-{
-    let mut next = gaps;
-    freeze_jobs(&mut next, n, jobs, count);
-    next
 }

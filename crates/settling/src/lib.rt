@@ -1,4 +1,4 @@
-// Rules settled on a gap table: tried one after the other, points set to their earliest times, or points that leave found to be over.
+// Rules settled on a gap table, where it lies: tried one after the other, points set to their earliest times, or points that leave found to be over.
 mod ending; // whether points that leave are over by the clock
 mod freezing; // points set equal to their earliest times
 
@@ -6,23 +6,20 @@ pub use ending::are_over;
 pub use freezing::freeze;
 use gaps::add;
 use gaps::agrees;
+use gaps::cells_of;
 use gaps::grow;
 use gaps::implies;
+use gaps::put_cells;
 use lines::Rules;
 use plain::Rule;
 ghost use mathlib.Core.Path.{_≡_};
+ghost use mathlib.Core.Bool.{false};
 ghost use Prim.Native.Nat.{_+_, _≤_, _<_};
 ghost use lib.ListN.{length};
 ghost use Rattle.lines.specs.Held.{rulesOf};
 ghost use Rattle.stn.specs.Table.{bias, Closed, Agrees};
 ghost use Rattle.gaps.specs.Cells.{tableOf, added, grown, Usable};
 ghost use Rattle.settling.specs.Settled.{AllUsable, addedAll, outcome};
-
-// A table, and whether all rules could be added to it.
-pub struct Tried {
-    pub ok: bool,
-    pub gaps: [u32; 4225],
-}
 
 // The rule added to a table of n points that it agrees with. A rule that every timetable keeps already changes no cell.
 fn add_new(t: &mut [u32], n: usize, rule: Rule)
@@ -54,25 +51,40 @@ fn add_all(t: &mut [u32], n: usize, rules: Rules) -> bool
     true
 }
 
-// The same on a copy of the table.
-pub fn try_rules(gaps: [u32; 4225], n: usize, rules: Rules) -> Tried
-    requires { ⌜ (n ≤ 65) × Closed n (tableOf gaps) ⌝ }
+// The same; where a rule does not agree, the table gets the cells of `old`.
+fn add_or_put(t: &mut [u32], n: usize, rules: Rules, old: &[u32]) -> bool
+    requires { ⌜ (length (now t) ≡ 4225) × (n ≤ 65) × Closed n (tableOf (now t)) ⌝ }
     requires { ⌜ (rules .count ≤ 82) × AllUsable n (rulesOf rules) ⌝ }
-    ensures { λ r. ⌜ outcome (r .ok) (r .gaps) ≡ addedAll (rulesOf rules) n gaps ⌝ }
+    requires { ⌜ length (now old) ≡ 4225 ⌝ }
+    ensures tried { λ r. ⌜ outcome r (now (t .exit)) ≡ addedAll (rulesOf rules) n (now (t .entry)) ⌝ }
+    ensures kept { λ r. ⌜ (r ≡ false → now (t .exit) ≡ now (old .entry)) ⌝ }
 {
-    let mut next = gaps;
-    let ok = add_all(&mut next, n, rules);
-    Tried { ok, gaps: next }
+    if add_all(t, n, rules) {
+        return true;
+    }
+    put_cells(t, old);
+    false
+}
+
+// The rules added to a table of n points; where one does not agree with those before it, the table stays as it came.
+pub fn try_rules(t: &mut [u32], n: usize, rules: Rules) -> bool
+    requires { ⌜ (length (now t) ≡ 4225) × (n ≤ 65) × Closed n (tableOf (now t)) ⌝ }
+    requires { ⌜ (rules .count ≤ 82) × AllUsable n (rulesOf rules) ⌝ }
+    ensures tried { λ r. ⌜ outcome r (now (t .exit)) ≡ addedAll (rulesOf rules) n (now (t .entry)) ⌝ }
+    ensures kept { λ r. ⌜ (r ≡ false → now (t .exit) ≡ now (t .entry)) ⌝ }
+{
+    let old = cells_of(t);
+    add_or_put(t, n, rules, &old)
 }
 
 // The same with m new points first, each from 0 to `most`.
-pub fn try_grown(gaps: [u32; 4225], n: usize, m: usize, most: u32, rules: Rules) -> Tried
-    requires { ⌜ (0 < n) × (n + m ≤ 65) × (most ≤ bias) × Closed n (tableOf gaps) ⌝ }
+pub fn try_grown(t: &mut [u32], n: usize, m: usize, most: u32, rules: Rules) -> bool
+    requires { ⌜ (length (now t) ≡ 4225) × (0 < n) × (n + m ≤ 65) × (most ≤ bias) × Closed n (tableOf (now t)) ⌝ }
     requires { ⌜ (rules .count ≤ 82) × AllUsable (n + m) (rulesOf rules) ⌝ }
-    ensures { λ r. ⌜ outcome (r .ok) (r .gaps) ≡ addedAll (rulesOf rules) (n + m) (grown gaps n m most) ⌝ }
+    ensures tried { λ r. ⌜ outcome r (now (t .exit)) ≡ addedAll (rulesOf rules) (n + m) (grown (now (t .entry)) n m most) ⌝ }
+    ensures kept { λ r. ⌜ (r ≡ false → now (t .exit) ≡ now (t .entry)) ⌝ }
 {
-    let mut next = gaps;
-    grow(&mut next, n, m, most);
-    let ok = add_all(&mut next, n + m, rules);
-    Tried { ok, gaps: next }
+    let old = cells_of(t);
+    grow(t, n, m, most);
+    add_or_put(t, n + m, rules, &old)
 }

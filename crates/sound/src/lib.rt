@@ -17,6 +17,7 @@ ghost use Rattle.stn.specs.Table.{bias};
 ghost use Rattle.plain.specs.Plain.{total};
 ghost use Rattle.lines.specs.Held.{jobsOf, lineOf};
 ghost use Rattle.lines.specs.Asked.{Sized};
+ghost use Rattle.sound.specs.Framed.{frameOf, whole};
 ghost use Rattle.sound.specs.Sound.{allOf, sizedNumbers, sizedJob, sizedJobs, sizedUse, sizedLine, sentFrom, standStill, stillJob, stillSent, sound};
 
 const BIAS: u32 = 100_000_000;
@@ -29,6 +30,45 @@ pub struct Board {
     pub jobs: Jobs,
     pub lines: [Line; 16],
     pub gaps: [u32; 4225],
+}
+
+// A board without its gap table, which is most of it: a call takes the frame by value, and the table lent where it lies.
+pub struct Frame {
+    pub horizon: u32,
+    pub lead: u32,
+    pub clock: u32,
+    pub jobs: Jobs,
+    pub lines: [Line; 16],
+}
+
+pub fn frame_of(b: Board) -> Frame
+    ensures { λ r. ⌜ r ≡ frameOf b ⌝ }
+{
+    let jobs = b.jobs;
+    let lines = b.lines;
+    Frame {
+        horizon: b.horizon,
+        lead: b.lead,
+        clock: b.clock,
+        jobs,
+        lines,
+    }
+}
+
+// The board of a frame and a table.
+pub fn whole(f: Frame, gaps: [u32; 4225]) -> Board
+    ensures { λ r. ⌜ r ≡ whole f gaps ⌝ }
+{
+    let jobs = f.jobs;
+    let lines = f.lines;
+    Board {
+        horizon: f.horizon,
+        lead: f.lead,
+        clock: f.clock,
+        jobs,
+        lines,
+        gaps,
+    }
 }
 
 // ---- numbers and jobs
@@ -192,27 +232,35 @@ fn is_sent_still(t: &[u32], jobs: Jobs) -> bool
 
 // ---- the board
 
-pub fn is_sound(b: Board) -> bool
-    ensures { λ r. ⌜ r ≡ sound b ⌝ }
+// Whether the board of a frame and a table is sound. The clauses come in this order: each keeps the numbers of the next small.
+pub fn is_sound_on(f: Frame, t: &[u32]) -> bool
+    requires { ⌜ length (now t) ≡ 4225 ⌝ }
+    ensures { λ r. ⌜ r ≡ sound (whole f (now (t .entry))) ⌝ }
 {
-    if !are_numbers_sized(b.horizon, b.lead, b.clock) {
+    if !are_numbers_sized(f.horizon, f.lead, f.clock) {
         return false;
     }
-    let jobs = b.jobs;
+    let jobs = f.jobs;
     if !are_jobs_sized(jobs) {
         return false;
     }
     let n = points(jobs);
-    let lines = b.lines;
+    let lines = f.lines;
     if !are_lines_sized(lines, n) {
         return false;
     }
     if !is_sent_first(jobs) {
         return false;
     }
-    let gaps = b.gaps;
-    if !is_gap_table(&gaps, n as usize + 1, b.horizon) {
+    if !is_gap_table(t, n as usize + 1, f.horizon) {
         return false;
     }
-    is_sent_still(&gaps, jobs)
+    is_sent_still(t, jobs)
+}
+
+pub fn is_sound(b: Board) -> bool
+    ensures { λ r. ⌜ r ≡ sound b ⌝ }
+{
+    let gaps = b.gaps;
+    is_sound_on(frame_of(b), &gaps)
 }

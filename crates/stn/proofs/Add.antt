@@ -4,7 +4,6 @@
 --   add-fits-to, -of      its timetables are those of the table that keep the rule
 --   add-none              of a table that a rule does not agree with, no timetable keeps the rule
 --   Added n c rs o        what the outcome o of adding the rules rs to c says: addAll-added shows it
---   add-column, add-row   the row and the column that adding a rule reads are not changed by it, so cells may be written in any order
 use mathlib.Core.Path.{_≡_, refl}
 use mathlib.Core.Logic.{_↔_}
 use mathlib.Core.Bool.{Bool, true, false}
@@ -82,14 +81,6 @@ module _ (n : ℕ) (c : Table) (r : Rule) (cl : Closed n c) (x : r .early < n) (
 pub add-none : (n : ℕ) (c : Table) (r : Rule) → r .early < n → r .late < n → ¬ (Agrees r c) → (t : Times) → Fits n c t → ¬ (Keeps t r)
 unfolding Agrees
 add-none n c r x y bad t f k = bad (omega (arith, fits-to f (r .early) (r .late) x y, keeps-to t r k))
-
-pub add-column : (r : Rule) (c : Table) → Agrees r c → (a : ℕ) → add r c a (r .late) ≡ c a (r .late)
-unfolding add Agrees
-add-column r c ok a = omega arith
-
-pub add-row : (r : Rule) (c : Table) → Agrees r c → (b : ℕ) → add r c (r .early) b ≡ c (r .early) b
-unfolding add Agrees
-add-row r c ok b = omega arith
 
 -- ---- rule after rule
 

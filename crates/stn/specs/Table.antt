@@ -12,7 +12,7 @@
 --   Still c x        the point x stands still: its earliest time is its latest
 --   implied c rs     every timetable of the table keeps these rules
 --   pick σ c         the table of the points σ 0, σ 1, ..;  oldNumber f m: numbers before m points from f on left
---   Agree n c d      the same cells among the first n points;  AgreeBoth n a b: so, or there is none in both
+--   Agree n c d      the same cells among the first n points
 use mathlib.Core.Path.{_≡_}
 use mathlib.Core.Bool.{Bool, true, false, cond, _&&_}
 use mathlib.Core.List.{List, [], _∷_}
@@ -104,9 +104,3 @@ oldNumber f m x = cond (ltb x f) x (x + m)
 
 abbrev pub Agree : ℕ → Table → Table → Type 0
 Agree n c d = (i j : ℕ) → i < n → j < n → c i j ≡ d i j
-
-unfoldable pub AgreeBoth : ℕ → Option Table → Option Table → Type 0
-AgreeBoth n (some c) (some d) = Agree n c d
-AgreeBoth n (some c) none = ⊥
-AgreeBoth n none (some d) = ⊥
-AgreeBoth n none none = Unit {0}

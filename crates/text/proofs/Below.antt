@@ -1,4 +1,7 @@
--- Laws of loops over the numbers below n: one for the start, one for a turn, one for a test that fails. Assumes nothing.
+-- Laws of loops over the numbers below n. Assumes nothing.
+--   all-none, count-none, list-none   the start
+--   all-more, count-more, list-more   a turn;  count-step: a turn that adds a test's 1 or 0, which is small (byte-small)
+--   all-fails                         a test that fails
 use Prim.Native.Nat.{ℕ, zero, suc, _+_, _<_, _≤_}
 use mathlib.Core.Path.{_≡_, refl}
 use mathlib.Core.Bool.{Bool, true, false, cond, _&&_, and-false}

@@ -1,4 +1,7 @@
--- Laws of pairs of hex digits: of decoding them, one for each way a turn can go, and of writing them. Assumes nothing.
+-- Laws of pairs of hex digits. Assumes nothing.
+--   bad-high, bad-low        a pair whose first or second byte is no digit
+--   pair-more, byte-more     a good pair more, and its byte in the buffer;  all-pairs: all are good
+--   encoded-none, encoded-more   pairs written one after the other
 use Prim.Native.Nat.{ℕ, _+_, _<_, _≤_}
 use mathlib.Core.Path.{_≡_, refl}
 use mathlib.Core.Bool.{true, and-false}

@@ -1,4 +1,6 @@
 -- Laws of the number that the first bytes of a word spell. Assumes nothing.
+--   value-none, value-more   no byte, and one byte more;  value-grows: more bytes spell no smaller number
+--   no-digit, too-large      why a word is no number;  all-digits: when it is one
 use Prim.Native.Nat.{ℕ, zero, suc, _+_, _-_, _*_, _<_, _≤_}
 use mathlib.Core.Path.{_≡_, refl}
 use mathlib.Core.Bool.{Bool, true, false, and-false}

@@ -1,6 +1,6 @@
 -- Bytes as hex: two lower-case digits for each byte, and `-` for no bytes. Assumes nothing.
 --   digitValue b        the value of a hex digit, and 16 for any other byte
---   pairAt s k          byte k has two hex digits
+--   pairAt s k          byte k has two hex digits, of the values highAt s k and lowAt s k
 --   byteAt s k          the byte that they spell
 --   bytesTo s n         the first n bytes
 --   isDash s            s is `-`

@@ -1,6 +1,7 @@
 -- Writing into a buffer at a place. Assumes nothing.
 --   Written before at s after end   s was written into `before` at `at`, as much of it as there is room for:
 --                                   the buffer is then `after`, and `end` is the place past what was written
+--   startAt, fitting                where writing at `at` begins, and how many bytes of s there is room for
 --   WrittenNumber before at n ..    the same of the decimal digits of n
 use Prim.Native.Nat.{ℕ, _+_, _-_, min}
 use mathlib.Core.Path.{_≡_}

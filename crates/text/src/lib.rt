@@ -1,8 +1,8 @@
 // Text in byte slices: decimal numbers, hex, and answers written into a buffer that the caller lends.
 //
-// Nothing here reads or writes a file: of the crate `io` only the spelling of numbers is used. No public function
-// has a `requires`: a place past the end of a buffer counts as its end, and bytes for which there is no room are
-// left out.
+// It may use the kit's `bytes` and, of `io`, the spelling of numbers: nothing here reads or writes a file. No public
+// function has a `requires`: a place past the end of a buffer counts as its end, and bytes for which there is no room
+// are left out.
 mod hex;
 mod number;
 mod output;

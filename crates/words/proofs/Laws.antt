@@ -1,4 +1,6 @@
 -- Four bytes make a u32. Assumes nothing.
+--   Bytes s    each element of s is a byte
+--   word-lt    so every word of s is below 2 ^ 32
 use Prim.Native.Nat.{ℕ, _+_, _^_, _<_}
 use native.Mathlib.Omega.{arith}
 use mathlib.Core.List.{List}

@@ -1,4 +1,5 @@
-// Numbers in byte slices. Document 01: "All fields are u32, low byte first."
+// Numbers in byte slices, for all that reads bytes. Document 01: "All fields are u32, low byte first."
+// It may use no other crate.
 ghost use mathlib.Core.Path.{_≡_};
 ghost use Prim.Native.Nat.{_+_, _*_, _≤_, _<_, _^_};
 ghost use lib.ListN.{length, getD};

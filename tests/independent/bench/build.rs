@@ -2,7 +2,7 @@
 
 use std::{env, fs};
 
-const LIBRARIES: [&str; 2] = ["factcheck", "boardbench"];
+const LIBRARIES: [&str; 2] = ["factcheck", "cabi"];
 
 fn main() {
     println!("cargo:rerun-if-env-changed=SF_LIB_DIR");

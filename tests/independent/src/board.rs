@@ -30,9 +30,9 @@ pub const MOST_LEAD: u32 = 1_000_000;
 /// What is added to a gap where it is stored: the least gap is then 0.
 pub const ZERO_GAP: u32 = 100_000_000;
 
-const HEADER_WORDS: usize = 4;
-const JOB_WORDS: usize = 3;
-const LINE_WORDS: usize = 1 + 3 * MOST_USES;
+pub const HEADER_WORDS: usize = 4;
+pub const JOB_WORDS: usize = 3;
+pub const LINE_WORDS: usize = 1 + 3 * MOST_USES;
 pub const BOARD_WORDS: usize =
     HEADER_WORDS + MOST_JOBS * JOB_WORDS + RESOURCES * LINE_WORDS + SIDE * SIDE;
 

@@ -41,30 +41,44 @@ const SYSTEMATIC: [(&str, Scenario); 13] = [
     ("sweeps", sweeps::sweeps),
 ];
 
-/// Writes a log of so many calls; one of board calls ends with the list that reaches them.
-pub fn generate(seed: u64, calls: u64, kind: Kind, out: &mut impl Write) -> io::Result<()> {
-    let mut rng = Rng::new(seed);
-    writeln!(out, "# generate {seed} {calls} {kind}")?;
+/// A list's name and its items.
+pub type NamedItems = (String, Vec<Item>);
+
+/// The lists of a kind, without end: those that go through every limit, then random ones.
+pub fn lists(seed: u64, kind: Kind) -> Box<dyn Iterator<Item = NamedItems>> {
+    let rng = Rng::new(seed);
     match kind {
-        Kind::Read => generate_reads(&mut rng, calls, out),
-        Kind::Board | Kind::Retire => boards::generate(&mut rng, calls, kind, out),
+        Kind::Read => Box::new(reads(rng)),
+        Kind::Board | Kind::Retire => Box::new(boards::lists(rng, kind)),
     }
 }
 
-fn generate_reads(rng: &mut Rng, calls: u64, out: &mut impl Write) -> io::Result<()> {
-    let mut calls_left = calls;
+fn reads(mut rng: Rng) -> impl Iterator<Item = NamedItems> {
     let random: (&str, Scenario) = ("random", random::random);
     let scenarios = SYSTEMATIC.into_iter().chain(std::iter::repeat(random));
-    for (number, (name, scenario)) in scenarios.enumerate() {
+    (0..).zip(scenarios).map(move |(number, (name, scenario))| {
         let mut list = List::default();
-        scenario(rng, &mut list);
-        writeln!(out, "\n{}", Item::List(format!("{name}-{number}")))?;
-        for item in list.0 {
+        scenario(&mut rng, &mut list);
+        (format!("{name}-{number}"), list.0)
+    })
+}
+
+/// Writes a log of so many calls; one of board calls ends with the list that reaches them.
+pub fn generate(seed: u64, calls: u64, kind: Kind, out: &mut impl Write) -> io::Result<()> {
+    writeln!(out, "# generate {seed} {calls} {kind}")?;
+    let whole_lists = kind != Kind::Read;
+    let mut written = 0;
+    for (name, items) in lists(seed, kind) {
+        if whole_lists && written >= calls {
+            break;
+        }
+        writeln!(out, "\n{}", Item::List(name))?;
+        for item in items {
             if item.is_call() {
-                if calls_left == 0 {
+                if !whole_lists && written == calls {
                     return Ok(());
                 }
-                calls_left -= 1;
+                written += 1;
             }
             writeln!(out, "{item}")?;
         }

@@ -11,8 +11,10 @@
 //! - `answer LOG [fast]` writes the answers this implementation gives.
 //! - `compare LOG ANSWERS [KIND]` holds the answers that the product's replay of the log wrote
 //!   against this implementation's, and fails on a difference or if the log showed too little.
-//! - the package in `bench` times the product's fact check beside this one; SF_LIB_DIR names the
-//!   folder of `libfactcheck.a`. With the feature `board` it times the fast form of boards too.
+//! - the package in `bench` times the product's calls from C beside the fast form and two others of
+//!   its own; SF_LIB_DIR names the folder of `libfactcheck.a` and `libcabi.a`.
+//! - the package in `soak` runs lists through the product's C interface and this implementation side
+//!   by side in one process.
 
 #![forbid(unsafe_code)]
 

@@ -1,3 +1,4 @@
+-- `sf_fact_check` meets its contract: the number of what `rule_facts` answers.
 use Rattle.rulings.specs.Answer.{numberOf}
 use Prim.Native.Nat.{_-_}
 use mathlib.Core.Path.{_∙_, ap}

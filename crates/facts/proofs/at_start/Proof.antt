@@ -1,3 +1,4 @@
+-- `at_start` meets its contract: nothing lacks, or the lowest fact that does.
 use borrow.Author.Tests.{eq-eqb, ne-eqb}
 use Rattle.facts.specs.Regression.{atStart}
 use Prim.Native.Nat.{_-_}

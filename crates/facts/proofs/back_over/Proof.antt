@@ -1,3 +1,4 @@
+-- `back_over` meets its contract: 11, 12, or what must hold before the step.
 use Rattle.facts.specs.Regression.{backOver}
 use Prim.Native.Nat.{_-_}
 use borrow.Author.Needs.{needs}

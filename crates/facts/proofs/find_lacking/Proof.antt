@@ -1,3 +1,4 @@
+-- `find_lacking` meets its contract, mask by mask.
 use Rattle.facts.specs.Regression.{lacking}
 use Prim.Native.Nat.{_-_}
 use borrow.Author.Needs.{needs}

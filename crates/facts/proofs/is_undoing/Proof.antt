@@ -1,3 +1,4 @@
+-- `is_undoing` meets its contract: facts needed true, then facts needed false.
 use Rattle.facts.specs.Regression.{undoes}
 use Prim.Native.Nat.{_-_}
 use borrow.Author.Needs.{needs}

@@ -1,3 +1,4 @@
+-- `regress` meets its contract, mask by mask.
 use Rattle.facts.specs.Regression.{regressed}
 use Prim.Native.Nat.{_-_}
 use borrow.Author.Needs.{needs}

@@ -1,3 +1,4 @@
+-- `difference` meets its contract: the machine's operations are the defined ones.
 use borrow.Author.Needs.{needs}
 use Rattle.masks.specs.Mask.{strike}
 use Rattle.masks.proofs.difference.Statement.{statement}

@@ -1,3 +1,4 @@
+-- `first` meets its contract: the machine's operation is the defined one.
 use borrow.Author.Needs.{needs}
 use Rattle.masks.specs.Mask.{lowest}
 use Rattle.masks.proofs.first.Statement.{statement}

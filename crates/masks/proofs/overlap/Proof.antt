@@ -1,3 +1,4 @@
+-- `overlap` meets its contract: the machine's operation is the defined one.
 use borrow.Author.Needs.{needs}
 use Rattle.masks.specs.Mask.{share}
 use Rattle.masks.proofs.overlap.Statement.{statement}

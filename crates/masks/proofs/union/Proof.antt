@@ -1,3 +1,4 @@
+-- `union` meets its contract: the machine's operation is the defined one.
 use borrow.Author.Needs.{needs}
 use Rattle.masks.specs.Mask.{join}
 use Rattle.masks.proofs.union.Statement.{statement}

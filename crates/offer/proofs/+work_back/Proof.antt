@@ -1,3 +1,6 @@
+-- `work_back` meets its contract, by recursion on the steps that are left. `at` is where the step starts, so its action and where the next step
+-- starts are what the chain says (`here`, `next-at`); then the later steps' answer is a clash that is handed on (`back-clash`) or what must hold
+-- after this step (`back-facts`).
 use Rattle.offer.proofs.Steps.{read-of}
 use Rattle.offer.proofs.Chain.{chain-none, here, known-in, ends-within, next-at, back-clash, back-facts}
 use mathlib.Core.Path.{_∙_}

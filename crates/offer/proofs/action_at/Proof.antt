@@ -1,3 +1,4 @@
+-- `action_at` meets its contract, mask by mask.
 use Rattle.offer.proofs.Chain.{action-is}
 use Prim.Native.Nat.{_-_}
 use borrow.Author.Needs.{needs}

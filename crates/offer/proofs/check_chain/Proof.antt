@@ -1,3 +1,4 @@
+-- `check_chain` meets its contract: 10 for the known facts, 10 for the goal, or what the chain worked back comes to.
 use Rattle.facts.specs.Regression.{onNeed}
 use Rattle.offer.proofs.Steps.{read-of, first-start}
 use Rattle.offer.proofs.Chain.{known-twice, goal-twice, on-to-facts}

@@ -1,3 +1,4 @@
+-- `read_goal` meets its contract.
 use Rattle.offer.specs.Offer.{goalOf}
 use Prim.Native.Nat.{_-_}
 use borrow.Author.Needs.{needs}

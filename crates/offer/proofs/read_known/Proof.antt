@@ -1,3 +1,4 @@
+-- `read_known` meets its contract.
 use Rattle.offer.specs.Offer.{knownOf}
 use Prim.Native.Nat.{_-_}
 use borrow.Author.Needs.{needs}

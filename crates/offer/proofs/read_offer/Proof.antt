@@ -1,3 +1,4 @@
+-- `read_offer` meets its contract: 7 for each of its reasons, or what the steps come to.
 use borrow.Author.Tests.{lt-ltb, le-ltb}
 use Rattle.offer.specs.Offer.{offerRuling}
 use Prim.Native.Nat.{_-_}

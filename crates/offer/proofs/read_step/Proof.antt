@@ -1,3 +1,4 @@
+-- `read_step` meets its contract: 8 for each of its three reasons, or where the step ends.
 use Rattle.offer.proofs.Steps.{too-short, no-action, cut-off, step-ends}
 use Prim.Native.Nat.{_-_}
 use native.Mathlib.Omega.{arith}

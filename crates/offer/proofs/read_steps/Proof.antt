@@ -1,3 +1,4 @@
+-- `read_steps` meets its contract. The loop's invariant: `at` is where the next step starts, in the offer, and the steps before it are accepted.
 use Rattle.rulings.specs.declared.Ruling.the-variants.{Accepted}
 use Rattle.rulings.specs.Order.{firstRefusal, refusalOf}
 use Rattle.rulings.proofs.Laws.{first-none, reading-stops, reading-goes-on}

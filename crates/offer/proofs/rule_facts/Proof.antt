@@ -1,3 +1,4 @@
+-- `rule_facts` meets its contract: the plant's refusal, the offer's, or the chain's ruling.
 use Rattle.plant.proofs.Good.{good}
 use Rattle.offer.proofs.Chain.{plant-refused, offer-refused, on-to-chain}
 use Prim.Native.Nat.{_-_}

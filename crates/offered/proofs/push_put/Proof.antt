@@ -1,3 +1,4 @@
+-- `push_put` meets its contract: one more in an array that has 0 past its count.
 use Rattle.offered.proofs.Laws.{push-is}
 use Prim.Native.Nat.{_-_}
 use borrow.Author.Needs.{needs}

@@ -1,3 +1,4 @@
+-- `push_step` meets its contract. The loop's invariant: the first j allocations of the step stand behind those held before (`StepHeld`).
 use Rattle.offered.proofs.Laws.{StepHeld, step-none, step-count, step-tidy, step-more, held-length, step-over}
 use Rattle.lines.specs.Held.{putsOf}
 use Prim.Native.Nat.{_≤_, _-_}

@@ -1,3 +1,4 @@
+-- `put_at` meets its contract, word by word.
 use Rattle.offered.proofs.Laws.{put-is}
 use Prim.Native.Nat.{_-_}
 use borrow.Author.Needs.{needs}

@@ -1,3 +1,4 @@
+-- `read_durations` meets its contract. The loop's invariant: `at` is where step k starts, and the first k steps are held.
 use mathlib.Core.Path.{ap, _∙_, _≡_, refl}
 use Rattle.offer.specs.Offer.{stepCount, stepStart}
 use lib.ListN.{replicate}

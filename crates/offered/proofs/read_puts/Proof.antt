@@ -1,3 +1,5 @@
+-- `read_puts` meets its contract. The loop's invariant: `at` is where step k starts, and the allocations of the first k steps are held
+-- (`PutsHeld`), at most 4 of each.
 use Rattle.offered.proofs.Laws.{count-at, first-at, action-within, action-known, record-is, step-within, next-at, PutsHeld, puts-none, puts-tidy, puts-more, puts-done}
 use Rattle.offer.specs.Offer.{stepStart, stepCount}
 use Rattle.offer.proofs.Steps.{read-of}

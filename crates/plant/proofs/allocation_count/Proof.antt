@@ -1,3 +1,4 @@
+-- `allocation_count` meets its contract: a good record has at most 4 (`count-is`).
 use Rattle.plant.proofs.Good.{good, count-is}
 use Prim.Native.Nat.{_-_}
 use borrow.Author.Needs.{needs}

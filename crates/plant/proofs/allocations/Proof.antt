@@ -1,3 +1,4 @@
+-- `allocations` meets its contract: a bad file and an action that it lacks have no part; a good one has it within the file.
 use Rattle.plant.proofs.Good.{good, part-none, part-lacks, part-is}
 use Prim.Native.Nat.{_-_}
 use mathlib.Core.Path.{sym, _∙_}

@@ -1,3 +1,4 @@
+-- `check_plant` meets its contract: 1 for each of its reasons, 2, or what the records come to.
 use borrow.Author.Tests.{lt-ltb, not-true, not-false}
 use Rattle.plant.specs.Plant.{plantRuling}
 use Rattle.plant.proofs.Good.{unmarked, bad-layout, on-to-records, layout-fits}

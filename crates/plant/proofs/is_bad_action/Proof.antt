@@ -1,3 +1,5 @@
+-- `is_bad_action` meets its contract: the two pairs of masks, the durations, then the allocations, which decide where all else is right
+-- (`range-rest`).
 use Rattle.plant.specs.Plant.{badAction}
 use Rattle.plant.proofs.Records.{range-rest}
 use Prim.Native.Nat.{_-_}

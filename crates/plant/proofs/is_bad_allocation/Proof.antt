@@ -1,3 +1,4 @@
+-- `is_bad_allocation` meets its contract, number by number. Where all else is in range the length's upper bound decides (`last-bound`).
 use Rattle.plant.proofs.Records.{last-bound}
 use borrow.Author.Tests.{lt-ltb, le-ltb}
 use Rattle.plant.specs.Plant.{badAllocation}

@@ -1,3 +1,4 @@
+-- `is_bad_duration` meets its contract, test by test.
 use borrow.Author.Tests.{lt-ltb, le-ltb}
 use Rattle.plant.specs.Plant.{badDuration}
 use Prim.Native.Nat.{_-_}

@@ -1,3 +1,4 @@
+-- `is_bad_head` meets its contract: the count, then the spare bytes. Where three tests pass the last one decides (`last-of-or`).
 use Rattle.rulings.proofs.Laws.{last-of-or}
 use borrow.Author.Tests.{lt-ltb, le-ltb, eq-eqb, ne-eqb}
 use Rattle.plant.specs.Plant.{badHead}

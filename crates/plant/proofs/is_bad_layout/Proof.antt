@@ -1,3 +1,4 @@
+-- `is_bad_layout` meets its contract: the count, then the length.
 use borrow.Author.Tests.{lt-ltb, le-ltb}
 use Rattle.plant.specs.Plant.{badLayout}
 use Prim.Native.Nat.{_-_}

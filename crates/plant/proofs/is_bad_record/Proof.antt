@@ -1,3 +1,5 @@
+-- `is_bad_record` meets its contract, test by test. A record whose header passes the index passes it (`passes-header`), so the count is read only
+-- where it lies before the index.
 use borrow.Author.Tests.{eq-eqb, ne-eqb, lt-ltb, le-ltb}
 use Rattle.plant.specs.Plant.{badRecord}
 use Rattle.plant.proofs.Records.{passes-header}

@@ -1,3 +1,4 @@
+-- `is_marked` meets its contract, byte by byte. Where three bytes are right the last one decides (`last-of-and`).
 use Rattle.rulings.proofs.Laws.{last-of-and}
 use borrow.Author.Tests.{eq-eqb, ne-eqb}
 use Rattle.plant.specs.Plant.{isMark}

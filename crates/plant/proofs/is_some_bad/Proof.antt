@@ -1,3 +1,4 @@
+-- `is_some_bad` meets its contract. The loop's invariant: none of the first k allocations is out of range.
 use Rattle.plant.proofs.Records.{some-bad-all, some-bad-none, some-bad-next, some-bad-here}
 use mathlib.Core.Path.{_≡_, sym, _∙_}
 use mathlib.Core.Bool.{false}

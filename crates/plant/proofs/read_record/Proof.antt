@@ -1,3 +1,4 @@
+-- `read_record` meets its contract: 3, 4, or where the record ends (`record-ends`).
 use Rattle.plant.specs.Plant.{recordAt}
 use Rattle.plant.proofs.Records.{placed, record-ends}
 use Prim.Native.Nat.{_-_}

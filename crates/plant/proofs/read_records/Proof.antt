@@ -1,3 +1,4 @@
+-- `read_records` meets its contract. The loop's invariant: `at` is where the next record has to start, and the records before it are accepted.
 use Rattle.rulings.specs.declared.Ruling.the-variants.{Accepted}
 use Rattle.rulings.specs.Order.{firstRefusal, refusalOf}
 use Rattle.rulings.proofs.Laws.{first-none, first-ends, reading-stops, reading-goes-on}

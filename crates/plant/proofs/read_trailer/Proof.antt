@@ -1,3 +1,4 @@
+-- `read_trailer` meets its contract. An index start read from four bytes is below 2 ^ 32.
 use Rattle.plant.specs.Plant.{trailerOf}
 use Prim.Native.Nat.{_-_}
 use borrow.Author.Needs.{needs}

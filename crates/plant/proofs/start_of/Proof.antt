@@ -1,3 +1,4 @@
+-- `start_of` meets its contract: in a good file the index entry says where the record starts (`start-is`).
 use Rattle.plant.proofs.Good.{good, entry-within, start-is, record-within}
 use Prim.Native.Nat.{_-_}
 use mathlib.Core.Path.{_∙_}

@@ -61,7 +61,7 @@ use Rattle.report.proofs.nth_row as nth-row
 use Rattle.report.proofs.nth_row.Symbol as nth-row-def
 use Rattle.report.proofs.nth_row.Symbol.{name as #report·nth-row}
 use Rattle.report.proofs.nth_row.Met as nth-row-thm
-use Rattle.report.proofs.Laws.{length-laid, laid-none, laid-more}
+use Rattle.report.proofs.Laid.{length-laid, laid-none, laid-more}
 use Rattle.report.proofs.fill.Key.{name as #report·fill}
 use Rattle.report.proofs.fill as fill
 use Rattle.report.proofs.fill.Statement as stated

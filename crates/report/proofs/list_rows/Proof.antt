@@ -7,7 +7,7 @@ use borrow.Author.Needs.{needs}
 use Rattle.lines.specs.Held.{jobsOf}
 use Rattle.lines.specs.Padded.{padded}
 use Rattle.report.specs.Rows.{noRow, rowsIn}
-use Rattle.report.proofs.Laws.{stored-none, stored-more, stored-all}
+use Rattle.report.proofs.Laid.{stored-none, stored-more, stored-all}
 use Rattle.report.proofs.list_rows.Statement.{statement}
 use Rattle.report.proofs.list_rows.Tie as tie
 

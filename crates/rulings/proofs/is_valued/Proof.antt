@@ -1,3 +1,4 @@
+-- `is_valued` meets its contract, by the cases of the ruling and of its cause.
 use mathlib.Core.Path.{sym, _∙_, ap}
 use borrow.Author.Needs.{needs}
 use Rattle.rulings.specs.declared.Ruling.the-variants.{Refused}

@@ -1,3 +1,4 @@
+-- `refusal` meets its contract, by the two cases of a record.
 use mathlib.Core.Path.{sym, ap}
 use borrow.Author.Needs.{needs}
 use Rattle.rulings.specs.Order.{refusalOf}

@@ -1,12 +1,10 @@
 -- `try_grown` meets its contract: the table with its new points is closed, so that rules can be tried on it.
-use Prim.Native.Nat.{_+_}
-use mathlib.Core.Path.{_≡_, sym, _∙_, ap}
+use Prim.Native.Nat.{ℕ, _+_}
+use mathlib.Core.Path.{_≡_, _∙_, ap}
 use mathlib.Core.List.{List}
 use native.Mathlib.Omega.{arith}
 use lib.ListN.{length}
 use borrow.Author.Needs.{needs}
-use Rattle.stn.specs.Table.{Closed}
-use Rattle.gaps.specs.Cells.{tableOf}
 use Rattle.gaps.proofs.Grown.{grown-length}
 use Rattle.gaps.proofs.GapTable.{grown-closed}
 use Rattle.lines.specs.Held.{rulesOf}
@@ -14,39 +12,52 @@ use Rattle.settling.specs.Settled.{addedAll}
 use Rattle.settling.proofs.try_grown.Statement.{statement}
 use Rattle.settling.proofs.try_grown.Tie as tie
 
-slice-aggregate-grow : tie.Need-slice-aggregate-grow
-slice-aggregate-grow c = omega arith
+cells-of-requires : tie.Need-cells-of-requires
+cells-of-requires c κs = search needs
 
 grow-requires : tie.Need-grow-requires
 grow-requires c κs =
-    let p = c .before .pre .0 in
-    let size : length (c .before .args .gaps) ≡ 4225 = search needs in
-    ((size, p .0, p .1, p .2), λ i h. p .3 .bounded i 0 h (p .0))
-
-slice-aggregate-add-all : tie.Need-slice-aggregate-add-all
-slice-aggregate-add-all c = omega arith
-
-add-add-all : tie.Need-add-add-all
-add-add-all c = search needs
-
-add-all-requires : tie.Need-add-all-requires
-add-all-requires c κs =
-    let A = c .before .before .before .before .args in
     let p = c .before .before .before .before .pre .0 in
-    let size : length (A .gaps) ≡ 4225 = search needs in
-    let e = c .before .before .grow .ensures in (
+    ((p .0, p .1, p .2, p .3), λ i h. p .4 .bounded i 0 h (p .1))
+
+add-add-or-put : tie.Need-add-add-or-put
+add-add-or-put c = search needs
+
+slice-aggregate-add-or-put : tie.Need-slice-aggregate-add-or-put
+slice-aggregate-add-or-put c = search needs
+
+add-or-put-requires : tie.Need-add-or-put-requires
+add-or-put-requires c κs =
+    let A = c .before .before .before .before .before .before .before .before .before .args in
+    let p = c .before .before .before .before .before .before .before .before .before .pre .0 in
+    let e = c .before .before .before .before .grow .ensures in
+    let size : length (c .before .before .before .before .before .before .cells-of .result) ≡ 4225 = search needs in (
       (
-        ap length e ∙ grown-length (A .gaps) (A .n) (A .m) (A .most) size (p .1),
-        p .1,
-        rw e (grown-closed (A .gaps) (A .n) (A .m) (A .most) size (p .0) (p .1) (p .2) (p .3)),
+        ap length e ∙ grown-length (A .t .now) (A .n) (A .m) (A .most) (p .0) (p .2),
+        p .2,
+        rw e (grown-closed (A .t .now) (A .n) (A .m) (A .most) (p .0) (p .1) (p .2) (p .3) (p .4)),
       ),
-      c .before .before .before .before .pre .1,
+      (c .before .before .before .before .before .before .before .before .before .pre .1, size),
     )
 
+same-length : tie.Need-same-length
+same-length c = search needs
+
 returns : tie.Need-returns
-returns c = c .before .add-all .ensures ∙ ap (λ (l : List _). addedAll (rulesOf (c .before .before .before .before .before .before .args .rules)) (c .before .before .before .before .before .before .args .n + c .before .before .before .before .before .before .args .m) l) (c .before .before .before .before .grow .ensures)
+returns c =
+    let A = c .before .before .before .before .before .before .before .before .before .before .before .before .args in (
+      c .before .before .add-or-put .ensures .0 ∙ ap (λ (l : List ℕ). addedAll (rulesOf (A .rules)) (A .n + A .m) l) (c .before .before .before .before .before .before .before .grow .ensures),
+      λ e. c .before .before .add-or-put .ensures .1 e ∙ c .before .before .before .before .before .before .before .before .before .cells-of .ensures,
+    )
 
 pub try-grown-spec : {M : Type 1} → statement M
 try-grown-spec =
     tie.close
-    (tie.spec slice-aggregate-grow grow-requires slice-aggregate-add-all add-add-all add-all-requires returns)
+    (tie.spec
+    cells-of-requires
+    grow-requires
+    add-add-or-put
+    slice-aggregate-add-or-put
+    add-or-put-requires
+    same-length
+    returns)

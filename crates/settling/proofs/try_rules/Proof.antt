@@ -1,19 +1,28 @@
-use Prim.Native.Nat.{_-_}
-use mathlib.Core.Path.{_≡_}
-use native.Mathlib.Omega.{arith}
-use lib.ListN.{length}
+-- `try_rules` meets its contract: the cells that are put back are those that were copied.
+use mathlib.Core.Path.{_∙_}
 use borrow.Author.Needs.{needs}
 use Rattle.settling.proofs.try_rules.Statement.{statement}
 use Rattle.settling.proofs.try_rules.Tie as tie
 
-slice-aggregate-add-all : tie.Need-slice-aggregate-add-all
-slice-aggregate-add-all c = omega arith
+cells-of-requires : tie.Need-cells-of-requires
+cells-of-requires c κs = search needs
 
-add-all-requires : tie.Need-add-all-requires
-add-all-requires c κs = let size : length (c .before .args .gaps) ≡ 4225 = search needs in ((size, c .before .pre .0 .0, c .before .pre .0 .1), c .before .pre .1)
+slice-aggregate-add-or-put : tie.Need-slice-aggregate-add-or-put
+slice-aggregate-add-or-put c = search needs
+
+add-or-put-requires : tie.Need-add-or-put-requires
+add-or-put-requires c κs = search needs
+
+same-length : tie.Need-same-length
+same-length c = search needs
 
 returns : tie.Need-returns
-returns c = c .before .add-all .ensures
+returns c = (
+  c .before .before .add-or-put .ensures .0,
+  λ e. c .before .before .add-or-put .ensures .1 e ∙ c .before .before .before .before .before .cells-of .ensures,
+)
 
 pub try-rules-spec : {M : Type 1} → statement M
-try-rules-spec = tie.close (tie.spec slice-aggregate-add-all add-all-requires returns)
+try-rules-spec =
+    tie.close
+    (tie.spec cells-of-requires slice-aggregate-add-or-put add-or-put-requires same-length returns)

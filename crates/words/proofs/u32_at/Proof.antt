@@ -1,3 +1,4 @@
+-- `u32_at` meets its contract: the sum of the four bytes is `word`.
 use Rattle.words.specs.Word.{word}
 use borrow.Author.Needs.{needs}
 use Rattle.words.proofs.u32_at.Statement.{statement}

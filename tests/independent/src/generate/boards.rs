@@ -12,11 +12,10 @@ mod random;
 mod script;
 
 use super::rng::Rng;
-use super::{offers, List};
+use super::{offers, List, NamedItems};
 use crate::kind::Kind;
 use crate::log::Item;
 use script::Script;
-use std::io::{self, Write};
 
 type Scenario = fn(&mut Rng, &mut Script);
 
@@ -78,25 +77,16 @@ fn plan_or_begin_anew(script: &mut Script, offer: Vec<u8>) {
     }
 }
 
-/// Writes whole lists until there are so many calls.
-pub fn generate(rng: &mut Rng, calls: u64, kind: Kind, out: &mut impl Write) -> io::Result<()> {
-    let mut written = 0;
+/// All lists, those that retire only where the kind does.
+pub fn lists(mut rng: Rng, kind: Kind) -> impl Iterator<Item = NamedItems> {
     let retires = kind == Kind::Retire;
-    let retiring = RETIRING.into_iter().filter(|_| retires);
+    let retiring = RETIRING.into_iter().filter(move |_| retires);
     let random = RANDOM.into_iter().cycle();
     let scenarios = SYSTEMATIC.into_iter().chain(retiring).chain(random);
-    for (number, (name, scenario)) in scenarios.enumerate() {
-        if written >= calls {
-            break;
-        }
+    (0..).zip(scenarios).map(move |(number, (name, scenario))| {
         let mut script = Script::new(retires);
-        scenario(rng, &mut script);
+        scenario(&mut rng, &mut script);
         script.show();
-        writeln!(out, "\n{}", Item::List(format!("{name}-{number}")))?;
-        for item in script.items() {
-            written += u64::from(item.is_call());
-            writeln!(out, "{item}")?;
-        }
-    }
-    Ok(())
+        (format!("{name}-{number}"), script.into_items())
+    })
 }

@@ -1,70 +1,35 @@
--- `plan` meets its contract: the plant file first, then the board, then the offer.
-use mathlib.Core.Path.{_≡_, sym, _∙_}
-use lib.ListN.{length}
-use borrow.Author.Tests.{not-true, not-false}
+-- `plan` meets its contract: a board is its frame and its table.
+use mathlib.Core.Path.{_∙_, ap}
 use borrow.Author.Needs.{needs}
-use Rattle.plant.proofs.Good.{good}
-use Rattle.lines.proofs.Lists.{length-mapped}
-use Rattle.sound.proofs.Soundness.{sound-to}
-use Rattle.board.proofs.Planned.{bad-plant, unsound, on-reading}
+use Rattle.sound.specs.declared.Frame.{Frame}
+use Rattle.sound.specs.Framed.{whole}
+use Rattle.board.specs.Calls.{planned}
 use Rattle.board.proofs.planning.plan.Statement.{statement}
 use Rattle.board.proofs.planning.plan.Tie as tie
 
-check-plant-requires : tie.Need-check-plant-requires
-check-plant-requires c κs = search needs
+frame-of-requires : tie.Need-frame-of-requires
+frame-of-requires c κs = search needs
 
-enum-known-first : tie.Need-enum-known-first
-enum-known-first c = search needs
+slice-aggregate-plan-on : tie.Need-slice-aggregate-plan-on
+slice-aggregate-plan-on c = search needs
 
-refused-requires : tie.Need-refused-requires
-refused-requires c κs = search needs
+plan-on-requires : tie.Need-plan-on-requires
+plan-on-requires c κs = search needs
+
+with-table-requires : tie.Need-with-table-requires
+with-table-requires c κs = search needs
 
 returns : tie.Need-returns
-returns c = c .refused .ensures ∙ bad-plant _ _ _ _ (sym (c .before .before .before .before .check-plant .ensures) ∙ c .before .before .first .given .1)
-
-enum-told : tie.Need-enum-told
-enum-told c = search needs
-
-is-sound-requires : tie.Need-is-sound-requires
-is-sound-requires c κs = search needs
-
-refused-requires-2 : tie.Need-refused-requires-2
-refused-requires-2 c κs = search needs
-
-returns-2 : tie.Need-returns-2
-returns-2 c =
-    c .refused2 .ensures
-    ∙ unsound _ _ _ (sym (c .before .before .before .before .before .check-plant .ensures) ∙ c .before .before .before .enum-told .given .1) (sym (c .before .before .is-sound .ensures) ∙ not-true _ (c .before .if1 .taken))
-
-read-trailer-requires : tie.Need-read-trailer-requires
-read-trailer-requires c κs = good _ (sym (c .before .before .before .before .check-plant .ensures) ∙ c .before .before .enum-told .given .1) .long
-
-plan-offer-requires : tie.Need-plan-offer-requires
-plan-offer-requires c κs =
-    let size : length (c .before .before .before .before .before .before .before .before .args .b .lines) ≡ 16 = search (needs, length-mapped) in (
-      sound-to _ size (sym (c .before .before .is-sound .ensures) ∙ not-false _ (c .before .if1 .left)),
-      sym (c .before .before .before .before .before .check-plant .ensures) ∙ c .before .before .before .enum-told .given .1,
-      c .read-trailer .ensures .0,
-      size,
-    )
-
-returns-3 : tie.Need-returns-3
-returns-3 c =
-    c .plan-offer .ensures
-    ∙ on-reading _ _ _ (sym (c .before .before .before .before .before .before .check-plant .ensures) ∙ c .before .before .before .before .enum-told .given .1) (sym (c .before .before .before .is-sound .ensures) ∙ not-false _ (c .before .before .if1 .left))
+returns c = c .with-table .ensures
+    ∙ c .before .before .plan-on .ensures
+    ∙ ap (λ (f : Frame). planned (whole f (c .before .before .before .before .before .before .before .before .args .b .gaps)) (c .before .before .before .before .before .before .before .before .args .plant .now) (c .before .before .before .before .before .before .before .before .args .offer .now)) (c .before .before .before .before .frame-of .ensures)
 
 pub plan-spec : {M : Type 1} → statement M
 plan-spec =
     tie.close
     (tie.spec
-    check-plant-requires
-    enum-known-first
-    refused-requires
-    returns
-    enum-told
-    is-sound-requires
-    refused-requires-2
-    returns-2
-    read-trailer-requires
-    plan-offer-requires
-    returns-3)
+    frame-of-requires
+    slice-aggregate-plan-on
+    plan-on-requires
+    with-table-requires
+    returns)

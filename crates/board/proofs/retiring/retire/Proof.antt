@@ -1,66 +1,35 @@
--- `retire` meets its contract, case by case.
-use mathlib.Core.Bool.{true}
-use mathlib.Core.Path.{_≡_, sym, _∙_}
-use native.Mathlib.Omega.{arith}
-use lib.ListN.{length}
-use borrow.Author.Tests.{not-true, not-false}
+-- `retire` meets its contract: a board is its frame and its table.
+use mathlib.Core.Path.{_∙_, ap}
 use borrow.Author.Needs.{needs}
-use Rattle.lines.proofs.Lists.{length-mapped}
-use Rattle.sound.specs.Sound.{sound}
-use Rattle.sound.proofs.Soundness.{sound-to}
-use Rattle.board.proofs.Retired.{unsound, none-there, oldest-first, unsent}
+use Rattle.sound.specs.declared.Frame.{Frame}
+use Rattle.sound.specs.Framed.{whole}
+use Rattle.board.specs.Calls.{retired}
 use Rattle.board.proofs.retiring.retire.Statement.{statement}
 use Rattle.board.proofs.retiring.retire.Tie as tie
 
-is-sound-requires : tie.Need-is-sound-requires
-is-sound-requires c κs = search needs
+frame-of-requires : tie.Need-frame-of-requires
+frame-of-requires c κs = search needs
 
-refused-requires : tie.Need-refused-requires
-refused-requires c κs = search needs
+slice-aggregate-retire-on : tie.Need-slice-aggregate-retire-on
+slice-aggregate-retire-on c = search needs
+
+retire-on-requires : tie.Need-retire-on-requires
+retire-on-requires c κs = search needs
+
+with-table-requires : tie.Need-with-table-requires
+with-table-requires c κs = search needs
 
 returns : tie.Need-returns
-returns c = c .refused .ensures ∙ unsound _ (sym (c .before .before .is-sound .ensures) ∙ not-true _ (c .before .if1 .taken))
-
-refused-requires-2 : tie.Need-refused-requires-2
-refused-requires-2 c κs = search needs
-
-returns-2 : tie.Need-returns-2
-returns-2 c = c .refused2 .ensures ∙ none-there _ (sym (c .before .before .before .before .is-sound .ensures) ∙ not-false _ (c .before .before .before .if1 .left)) (c .before .if2 .taken)
-
-element-copy-out-oldest : tie.Need-element-copy-out-oldest
-element-copy-out-oldest c = search needs
-
-refused-requires-3 : tie.Need-refused-requires-3
-refused-requires-3 c κs = search needs
-
-returns-3 : tie.Need-returns-3
-returns-3 c = let b = c .before .before .before .before .before .before .before .before .args .b in
-    let passes : sound b ≡ true = sym (c .before .before .before .before .before .before .before .is-sound .ensures) ∙ not-false _ (c .before .before .before .before .before .before .if1 .left) in
-    let lines : length (b .lines) ≡ 16 = search (needs, length-mapped) in
-    let jobs : length (b .jobs .jobs) ≡ 16 = search (needs, length-mapped) in
-    let first = oldest-first b (omega arith) (omega (arith, sound-to b lines passes .jobs)) in
-    c .refused3 .ensures ∙ unsent b _ _ first passes (not-true _ (c .before .if3 .taken))
-
-retire-sent-requires : tie.Need-retire-sent-requires
-retire-sent-requires c κs = let b = c .before .before .before .before .before .before .before .args .b in
-    let passes : sound b ≡ true = sym (c .before .before .before .before .before .before .is-sound .ensures) ∙ not-false _ (c .before .before .before .before .before .if1 .left) in
-    let lines : length (b .lines) ≡ 16 = search (needs, length-mapped) in
-    (passes, sound-to b lines passes, omega arith, not-false _ (c .if3 .left))
-
-returns-4 : tie.Need-returns-4
-returns-4 c = search needs
+returns c = c .with-table .ensures
+    ∙ c .before .before .retire-on .ensures
+    ∙ ap (λ (f : Frame). retired (whole f (c .before .before .before .before .before .before .args .b .gaps))) (c .before .before .before .before .frame-of .ensures)
 
 pub retire-spec : {M : Type 1} → statement M
 retire-spec =
     tie.close
     (tie.spec
-    is-sound-requires
-    refused-requires
-    returns
-    refused-requires-2
-    returns-2
-    element-copy-out-oldest
-    refused-requires-3
-    returns-3
-    retire-sent-requires
-    returns-4)
+    frame-of-requires
+    slice-aggregate-retire-on
+    retire-on-requires
+    with-table-requires
+    returns)

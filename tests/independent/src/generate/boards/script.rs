@@ -22,8 +22,8 @@ impl Script {
         }
     }
 
-    pub fn items(&self) -> &[Item] {
-        &self.items
+    pub fn into_items(self) -> Vec<Item> {
+        self.items
     }
 
     /// Adds an item and gives the number of its ruling, if it has one.

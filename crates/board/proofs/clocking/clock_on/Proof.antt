@@ -1,0 +1,69 @@
+-- `clock_on` meets its contract, case by case.
+use mathlib.Core.Path.{_≡_, sym, _∙_}
+use lib.ListN.{length}
+use borrow.Author.Tests.{not-true, not-false}
+use borrow.Author.Needs.{needs}
+use Rattle.lines.proofs.Lists.{length-mapped}
+use Rattle.sound.proofs.Soundness.{sound-to}
+use Rattle.board.proofs.Clocked.{unsound, back, past}
+use Rattle.board.proofs.clocking.clock_on.Statement.{statement}
+use Rattle.board.proofs.clocking.clock_on.Tie as tie
+
+is-sound-on-requires : tie.Need-is-sound-on-requires
+is-sound-on-requires c κs = search needs
+
+refused-requires : tie.Need-refused-requires
+refused-requires c κs = search needs
+
+same-length : tie.Need-same-length
+same-length c = search needs
+
+returns : tie.Need-returns
+returns c = c .refused .ensures _ ∙ unsound _ _ (sym (c .before .before .is-sound-on .ensures) ∙ not-true _ (c .before .if1 .taken))
+
+refused-requires-2 : tie.Need-refused-requires-2
+refused-requires-2 c κs = search needs
+
+same-length-2 : tie.Need-same-length-2
+same-length-2 c = search needs
+
+returns-2 : tie.Need-returns-2
+returns-2 c = c .refused2 .ensures _ ∙ back _ _ (sym (c .before .before .before .before .is-sound-on .ensures) ∙ not-false _ (c .before .before .before .if1 .left)) (c .before .if2 .taken)
+
+refused-requires-3 : tie.Need-refused-requires-3
+refused-requires-3 c κs = search needs
+
+same-length-3 : tie.Need-same-length-3
+same-length-3 c = search needs
+
+returns-3 : tie.Need-returns-3
+returns-3 c = c .refused3 .ensures _ ∙ past _ _ (sym (c .before .before .before .before .before .before .is-sound-on .ensures) ∙ not-false _ (c .before .before .before .before .before .if1 .left)) (c .before .before .before .if2 .left) (c .before .if3 .taken)
+
+move-clock-requires : tie.Need-move-clock-requires
+move-clock-requires c κs = let passes = sym (c .before .before .before .before .before .before .is-sound-on .ensures) ∙ not-false _ (c .before .before .before .before .before .if1 .left) in
+    let size : length (c .before .before .before .before .before .before .before .before .before .args .f .lines) ≡ 16 = search (needs, length-mapped) in
+    (c .before .before .before .before .before .before .before .before .before .pre, (passes, sound-to _ size passes, c .before .before .before .if2 .left, c .before .if3 .left))
+
+same-length-4 : tie.Need-same-length-4
+same-length-4 c = search needs
+
+returns-4 : tie.Need-returns-4
+returns-4 c = search needs
+
+pub clock-on-spec : {M : Type 1} → statement M
+clock-on-spec =
+    tie.close
+    (tie.spec
+    is-sound-on-requires
+    refused-requires
+    same-length
+    returns
+    refused-requires-2
+    same-length-2
+    returns-2
+    refused-requires-3
+    same-length-3
+    returns-3
+    move-clock-requires
+    same-length-4
+    returns-4)

@@ -1,0 +1,163 @@
+-- Laws of writing over a list.
+--   put-length     the length stays
+--   put-append     two lists written one behind the other
+--   put-three      three words stored one by one;  put-four: the first four
+--   put-turn       a loop's turn: the words of element k behind those before it
+--   put-cell       the same for a single word
+--   put-whole      a list that is written over as a whole;  put-front: its front part
+--   length-frame, length-words   the words of a frame and of a board are 1,604 and 5,829
+--   put-frame      a frame's parts written one behind the other;  put-board: a frame and the cells
+use Prim.Native.Nat.{ℕ, zero, suc, _+_, _*_, _<_, _≤_}
+use mathlib.Core.Path.{_≡_, refl, sym, _∙_, ap}
+use mathlib.Core.List.{List, [], _∷_, _++_, append-nil, append-assoc}
+use lib.ListN.{length, getD, set, take, length-set, length-append}
+use lib.Seq.{take-all, set-append-left}
+use native.Mathlib.Numerals.{add-one}
+use native.Mathlib.Omega.{arith}
+use Rattle.boardwords.specs.Words.{listed}
+use Rattle.boardwords.proofs.Listed.{length-listed}
+use Rattle.lines.specs.declared.Line.{Line}
+use Rattle.lines.specs.Held.{noJob, noLine}
+use Rattle.plain.specs.Plain.{noUse}
+use Rattle.sound.specs.declared.Board.{Board}
+use Rattle.sound.specs.declared.Frame.{Frame}
+use Rattle.sound.specs.Framed.{frameOf}
+use Rattle.boardwords.specs.Codec.{joined, put, counted, jobWords, useWords, lineWords, headWords, jobsWords, linesWords, cellsWords, frameWords, wordsOf}
+use Rattle.boardwords.proofs.Blocks.{length-joined}
+
+pub put-length : (w : List ℕ) (at : ℕ) (l : List ℕ) → length (put w at l) ≡ length w
+unfolding put
+put-length w at [] = refl
+put-length w at (x ∷ l) = put-length (set w at x) (suc at) l ∙ length-set w at x
+
+pub put-append : (w : List ℕ) (at : ℕ) (l m : List ℕ) (to : ℕ) → to ≡ at + length l → put w at (l ++ m) ≡ put (put w at l) to m
+unfolding put
+put-append w at [] m to e = ap (λ (i : ℕ). put w i m) (omega arith)
+put-append w at (x ∷ l) m to e = put-append (set w at x) (suc at) l m to (omega arith)
+
+pub put-three :
+    (w : List ℕ) (at a b c : ℕ) → set (set (set w at a) (at + 1) b) (at + 2) c ≡ put w at (a ∷ b ∷ c ∷ [])
+unfolding put
+put-three w at a b c =
+    let one : at + 1 ≡ suc at = omega arith in
+    let two : at + 2 ≡ suc (suc at) = omega arith in
+    rw (one, two)
+
+pub put-four : (w : List ℕ) (a b c d : ℕ) → set (set (set (set w 0 a) 1 b) 2 c) 3 d ≡ put w 0 (a ∷ b ∷ c ∷ d ∷ [])
+unfolding put
+put-four w a b c d = refl
+
+-- a word that is known by an equation: the last of three, and the first of many
+pub put-last : (w : List ℕ) (at a b m n : ℕ) (x : List ℕ) → x ≡ put w at (a ∷ b ∷ m ∷ []) → m ≡ n → x ≡ put w at (a ∷ b ∷ n ∷ [])
+put-last w at a b m n x e s = rw (← s) e
+
+pub put-first : (w : List ℕ) (at m n : ℕ) (l x : List ℕ) → x ≡ put (set w at m) (at + 1) l → m ≡ n → x ≡ put w at (n ∷ l)
+unfolding put
+put-first w at m n l x e s = rw (← s, ← add-one at) e
+
+pub length-line : (l : Line) → length (lineWords l) ≡ 97
+length-line l = ap suc (length-joined (λ k. useWords (getD (l .uses) k noUse)) 3 32 (λ k. refl))
+
+pub put-none : (f : ℕ → List ℕ) (w : List ℕ) (at : ℕ) → w ≡ put w at (joined f 0)
+unfolding joined put
+put-none f w at = refl
+
+pub put-no-cell : (f : ℕ → ℕ) (w : List ℕ) (at : ℕ) → w ≡ put w at (listed f 0)
+unfolding listed put
+put-no-cell f w at = refl
+
+pub put-turn :
+    (f : ℕ → List ℕ) (s : ℕ) → ((k : ℕ) → length (f k) ≡ s)
+    → (w₀ : List ℕ) (at k to : ℕ) (w x : List ℕ) → w ≡ put w₀ at (joined f k) → to ≡ at + s * k → x ≡ put w to (f k)
+    → x ≡ put w₀ at (joined f (k + 1))
+unfolding joined
+put-turn f s e w₀ at k to w x is place new =
+    rw (add-one k)
+    (new ∙ ap (λ (l : List ℕ). put l to (f k)) is
+    ∙ sym (put-append w₀ at (joined f k) (f k) to (place ∙ ap (λ (i : ℕ). at + i) (sym (length-joined f s k e)))))
+
+pub put-line-turn :
+    (ls : List Line) (w₀ : List ℕ) (at k : ℕ) (w x : List ℕ) → w ≡ put w₀ at (joined (λ i. lineWords (getD ls i noLine)) k)
+    → x ≡ put w (at + 97 * k) (lineWords (getD ls k noLine)) → x ≡ put w₀ at (joined (λ i. lineWords (getD ls i noLine)) (k + 1))
+put-line-turn ls w₀ at k w x is new =
+    put-turn (λ i. lineWords (getD ls i noLine)) 97 (λ i. length-line (getD ls i noLine)) w₀ at k (at + 97 * k) w x is refl new
+
+pub put-cell :
+    (f : ℕ → ℕ) (w₀ : List ℕ) (at k : ℕ) (w : List ℕ) (v : ℕ) → w ≡ put w₀ at (listed f k) → v ≡ f k
+    → set w (at + k) v ≡ put w₀ at (listed f (k + 1))
+unfolding listed put
+put-cell f w₀ at k w v is new =
+    rw (add-one k, is, new)
+    (sym (put-append w₀ at (listed f k) (f k ∷ []) (at + k) (ap (λ (i : ℕ). at + i) (sym (length-listed f k)))))
+
+-- the words before `at` stay
+take-set : (w : List ℕ) (at x : ℕ) → at < length w → take (suc at) (set w at x) ≡ take at w ++ (x ∷ [])
+take-set [] at x h = absurd (omega arith)
+take-set (y ∷ w) zero x h = refl
+take-set (y ∷ w) (suc at) x h = ap (_∷_ y) (take-set w at x (omega arith))
+
+put-rest : (w : List ℕ) (at : ℕ) (l : List ℕ) → length w ≡ at + length l → put w at l ≡ take at w ++ l
+unfolding put
+put-rest w at [] e = sym (append-nil (take at w) ∙ take-all at w (omega arith))
+put-rest w at (x ∷ l) e =
+    put-rest (set w at x) (suc at) l (omega (arith, length-set w at x))
+    ∙ ap (λ (h : List ℕ). h ++ l) (take-set w at x (omega arith))
+    ∙ append-assoc (take at w) (x ∷ []) l
+
+pub put-whole : (w l : List ℕ) → length w ≡ length l → put w 0 l ≡ l
+put-whole w l e = put-rest w 0 l (omega arith)
+
+-- a list that is written over the front part of another
+put-inside : (w v : List ℕ) (at : ℕ) (l : List ℕ) → at + length l ≤ length w → put (w ++ v) at l ≡ put w at l ++ v
+unfolding put
+put-inside w v at [] h = refl
+put-inside w v at (x ∷ l) h =
+    ap (λ (u : List ℕ). put u (suc at) l) (set-append-left w v at x (omega arith))
+    ∙ put-inside (set w at x) v (suc at) l (omega (arith, length-set w at x))
+
+pub put-front : (w v l : List ℕ) → length w ≡ length l → put (w ++ v) 0 l ≡ l ++ v
+put-front w v l e = put-inside w v 0 l (omega arith) ∙ ap (λ (u : List ℕ). u ++ v) (put-whole w l e)
+
+-- ---- frames and boards
+
+pub length-jobs : (f : Frame) → length (jobsWords (f .jobs .jobs)) ≡ 48
+length-jobs f = length-joined (λ k. jobWords (getD (f .jobs .jobs) k noJob)) 3 16 (λ k. refl)
+
+pub length-lines : (f : Frame) → length (linesWords (f .lines)) ≡ 1552
+length-lines f = length-joined (λ k. lineWords (getD (f .lines) k noLine)) 97 16 (λ k. length-line (getD (f .lines) k noLine))
+
+pub length-frame : (f : Frame) → length (frameWords f) ≡ 1604
+unfolding frameWords
+length-frame f =
+    let rest = length-append (jobsWords (f .jobs .jobs)) (linesWords (f .lines)) in omega (arith, rest, length-jobs f, length-lines f)
+
+pub length-words : (b : Board) → length (wordsOf b) ≡ 5829
+unfolding wordsOf
+length-words b =
+    length-append (frameWords (frameOf b)) (cellsWords (b .gaps))
+    ∙ omega (arith, length-frame (frameOf b), length-listed (λ k. getD (b .gaps) k 0) 4225)
+
+-- head, jobs and lines written one behind the other
+pub put-frame :
+    (f : Frame) (w x y z : List ℕ) (n : ℕ) → x ≡ put w 0 (f .horizon ∷ f .lead ∷ f .clock ∷ n ∷ []) → n ≡ counted (f .jobs .count)
+    → y ≡ put x 4 (jobsWords (f .jobs .jobs)) → z ≡ put y 52 (linesWords (f .lines)) → z ≡ put w 0 (frameWords f)
+unfolding frameWords
+put-frame f w x y z n ex en ey ez =
+    let J = jobsWords (f .jobs .jobs) in
+    let L = linesWords (f .lines) in
+    let head : x ≡ put w 0 (headWords f) = rw (← en) ex in
+    let one : put w 0 (headWords f ++ (J ++ L)) ≡ put x 4 (J ++ L) = rw head (put-append w 0 (headWords f) (J ++ L) 4 refl) in
+    let two : put x 4 (J ++ L) ≡ put y 52 L = rw ey (put-append x 4 J L 52 (omega (arith, length-jobs f))) in
+    sym (one ∙ (two ∙ sym ez))
+
+-- the frame and the cells behind it
+pub put-board :
+    (b : Board) (f : Frame) (w x y : List ℕ) → length w ≡ 5829 → f ≡ frameOf b → x ≡ put w 0 (frameWords f)
+    → y ≡ put x 1604 (cellsWords (b .gaps)) → y ≡ wordsOf b
+unfolding wordsOf
+put-board b f w x y len ef ex ey =
+    let F = frameWords (frameOf b) in
+    let G = cellsWords (b .gaps) in
+    let front : x ≡ put w 0 F = ex ∙ ap (λ (g : Frame). put w 0 (frameWords g)) ef in
+    let both : put w 0 (F ++ G) ≡ put x 1604 G = rw front (put-append w 0 F G 1604 (omega (arith, length-frame (frameOf b)))) in
+    ey ∙ (sym both ∙ put-whole w (F ++ G) (len ∙ sym (length-words b)))

@@ -1,0 +1,185 @@
+// A frame and a board read from their words, each number a word, by the definition in specs/Words.
+use lines::Jobs;
+use lines::Line;
+use plain::Job;
+use plain::Use;
+use sound::Board;
+use sound::Frame;
+use sound::whole;
+ghost use mathlib.Core.Path.{_≡_};
+ghost use Prim.Native.Nat.{_+_, _≤_, _<_};
+ghost use lib.ListN.{length};
+ghost use Rattle.boardwords.specs.Words.{wordIn, jobFrom, jobsFrom, useFrom, usesFrom, lineFrom, linesFrom, cellsFrom, marked, allMarked, frameFrom, boardIn, zeros};
+
+// ---- words, jobs, lines and cells, each from the word where it begins
+
+fn word(s: &[u32], k: usize) -> u32
+    requires { ⌜ k < length (now s) ⌝ }
+    ensures { λ r. ⌜ r ≡ wordIn (now (s .entry)) k ⌝ }
+{
+    s[k]
+}
+
+fn job(s: &[u32], at: usize) -> Job
+    requires { ⌜ at + 3 ≤ length (now s) ⌝ }
+    ensures { λ r. ⌜ r ≡ jobFrom (wordIn (now (s .entry))) at ⌝ }
+{
+    Job {
+        points: word(s, at),
+        batch: word(s, at + 1),
+        sent: word(s, at + 2) == 1,
+    }
+}
+
+fn jobs(s: &[u32]) -> [Job; 16]
+    requires { ⌜ 1604 ≤ length (now s) ⌝ }
+    ensures { λ r. ⌜ r ≡ jobsFrom (wordIn (now (s .entry))) ⌝ }
+{
+    let mut next = [no_job(); 16];
+    for k in 0..16 {
+        next[k] = job(s, 4 + 3 * k);
+    }
+    next
+}
+
+fn one_use(s: &[u32], at: usize) -> Use
+    requires { ⌜ at + 3 ≤ length (now s) ⌝ }
+    ensures { λ r. ⌜ r ≡ useFrom (wordIn (now (s .entry))) at ⌝ }
+{
+    Use {
+        point: word(s, at),
+        offset: word(s, at + 1),
+        length: word(s, at + 2),
+    }
+}
+
+fn uses(s: &[u32], at: usize) -> [Use; 32]
+    requires { ⌜ at + 96 ≤ length (now s) ⌝ }
+    ensures { λ r. ⌜ r ≡ usesFrom (wordIn (now (s .entry))) at ⌝ }
+{
+    let mut next = [no_use(); 32];
+    for k in 0..32 {
+        next[k] = one_use(s, at + 3 * k);
+    }
+    next
+}
+
+fn line(s: &[u32], at: usize) -> Line
+    requires { ⌜ at + 97 ≤ length (now s) ⌝ }
+    ensures { λ r. ⌜ r ≡ lineFrom (wordIn (now (s .entry))) at ⌝ }
+{
+    Line {
+        count: word(s, at) as usize,
+        uses: uses(s, at + 1),
+    }
+}
+
+fn lines(s: &[u32]) -> [Line; 16]
+    requires { ⌜ 1604 ≤ length (now s) ⌝ }
+    ensures { λ r. ⌜ r ≡ linesFrom (wordIn (now (s .entry))) ⌝ }
+{
+    let mut next = [no_line(); 16];
+    for k in 0..16 {
+        next[k] = line(s, 52 + 97 * k);
+    }
+    next
+}
+
+fn cells(s: &[u32]) -> [u32; 4225]
+    requires { ⌜ length (now s) ≡ 5829 ⌝ }
+    ensures { λ r. ⌜ r ≡ cellsFrom (wordIn (now (s .entry))) ⌝ }
+{
+    let mut next = [0u32; 4225];
+    for k in 0..4225 {
+        next[k] = word(s, 1604 + k);
+    }
+    next
+}
+
+// ---- places with 0 everywhere
+
+fn no_job() -> Job
+    ensures { λ r. ⌜ r ≡ jobFrom zeros 0 ⌝ }
+{
+    Job {
+        points: 0,
+        batch: 0,
+        sent: false,
+    }
+}
+
+fn no_use() -> Use
+    ensures { λ r. ⌜ r ≡ useFrom zeros 0 ⌝ }
+{
+    Use {
+        point: 0,
+        offset: 0,
+        length: 0,
+    }
+}
+
+fn no_line() -> Line
+    ensures { λ r. ⌜ r ≡ lineFrom zeros 0 ⌝ }
+{
+    Line {
+        count: 0,
+        uses: [no_use(); 32],
+    }
+}
+
+// ---- the board
+
+// A job in use is marked sent or unsent, by 1 or 0. No one looks at the others.
+fn is_marked(count: usize, k: usize, mark: u32) -> bool
+    ensures { λ r. ⌜ r ≡ marked count k mark ⌝ }
+{
+    (count <= k) | (mark <= 1)
+}
+
+fn are_marked(s: &[u32]) -> bool
+    requires { ⌜ 1604 ≤ length (now s) ⌝ }
+    ensures { λ r. ⌜ r ≡ allMarked (wordIn (now (s .entry))) ⌝ }
+{
+    let count = word(s, 3) as usize;
+    let mut ok = true;
+    for k in 0..16 {
+        ok = ok & is_marked(count, k, word(s, 6 + 3 * k));
+    }
+    ok
+}
+
+// No board has a horizon of 0: it stands for a mark that no board has either.
+fn horizon(s: &[u32]) -> u32
+    requires { ⌜ 1604 ≤ length (now s) ⌝ }
+    ensures { λ r. ⌜ r ≡ frameFrom (wordIn (now (s .entry))) .horizon ⌝ }
+{
+    if are_marked(s) {
+        return word(s, 0);
+    }
+    0
+}
+
+// The frame that the first 1,604 words hold.
+pub fn read_frame(s: &[u32]) -> Frame
+    requires { ⌜ 1604 ≤ length (now s) ⌝ }
+    ensures { λ r. ⌜ r ≡ frameFrom (wordIn (now (s .entry))) ⌝ }
+{
+    Frame {
+        horizon: horizon(s),
+        lead: word(s, 1),
+        clock: word(s, 2),
+        jobs: Jobs {
+            count: word(s, 3) as usize,
+            jobs: jobs(s),
+        },
+        lines: lines(s),
+    }
+}
+
+// The board that these words hold.
+pub fn read_board(s: &[u32]) -> Board
+    requires { ⌜ length (now s) ≡ 5829 ⌝ }
+    ensures { λ r. ⌜ r ≡ boardIn (now (s .entry)) ⌝ }
+{
+    whole(read_frame(s), cells(s))
+}

@@ -1,0 +1,54 @@
+-- Laws of the calls on a board that is lent as words.
+--   other-length                    words that are not as many as a board has are refused with 6, and stay
+--   other-cause                     the same for the list lent for the cause
+--   given-refused, given-accepted   the number and the words after an answer whose board comes by value
+--   answered                        of a board's length, the answer is that for the board of the words
+--   gives                           the number and the words after an accepted answer whose table was lent
+use Prim.Native.Nat.{ℕ}
+use mathlib.Core.Path.{_≡_, _∙_, ap}
+use mathlib.Core.List.{List}
+use lib.ListN.{length}
+use borrow.Author.Tests.{eq-eqb, ne-eqb}
+use Rattle.rulings.specs.declared.Cause.{Cause}
+use Rattle.rulings.specs.declared.Ruling.{Ruling}
+use Rattle.rulings.specs.declared.Ruling.the-variants.{Accepted, Refused}
+use Rattle.rulings.specs.Answer.{numberOf}
+use Rattle.rulings.specs.Order.{ifAccepted}
+use Rattle.sound.specs.declared.Board.{Board}
+use Rattle.board.specs.declared.Ruled.{Ruled}
+use Rattle.boardwords.specs.Words.{boardIn}
+use Rattle.boardwords.specs.Codec.{wordsOf}
+use Rattle.cabi.specs.Calls.{ruledOn, wordsAfter, causeAfter}
+
+pub given-refused :
+    (w : List ℕ) (a : Ruled) (c : Cause) (n : ℕ) → a .ruling ≡ Refused c → n ≡ numberOf (a .ruling)
+    → (n ≡ numberOf (a .ruling)) × (w ≡ wordsAfter w a)
+unfolding wordsAfter
+given-refused w a c n e num = (num, rw e)
+
+pub given-accepted :
+    (w x : List ℕ) (a : Ruled) → a .ruling ≡ Accepted → x ≡ wordsOf (a .board) → (0 ≡ numberOf (a .ruling)) × (x ≡ wordsAfter w a)
+unfolding wordsAfter
+given-accepted w x a e is = (rw e, rw e is)
+
+pub gives : (r : Ruling) (w x y : List ℕ) → r ≡ Accepted → y ≡ x → (0 ≡ numberOf r) × (y ≡ ifAccepted r x w)
+gives r w x y e is = (rw e, rw e is)
+
+module _ (f : Board → Ruled) (w : List ℕ) where
+  pub other-length : (length w ≡ 5829 → ⊥) → (6 ≡ numberOf (ruledOn f w .ruling)) × (w ≡ wordsAfter w (ruledOn f w))
+  unfolding ruledOn wordsAfter
+  other-length h = let e = ne-eqb (length w) 5829 h in (rw e, rw e)
+
+  ruled-is : (b : Board) (a : Ruled) → length w ≡ 5829 → b ≡ boardIn w → a ≡ f b → a ≡ ruledOn f w
+  unfolding ruledOn
+  ruled-is b a h eb ea = rw (eq-eqb (length w) 5829 h, ← eb) ea
+
+  pub answered :
+      (b : Board) (a : Ruled) (n : ℕ) (x : List ℕ) → length w ≡ 5829 → b ≡ boardIn w → a ≡ f b → n ≡ numberOf (a .ruling)
+      → x ≡ wordsAfter w a → (n ≡ numberOf (ruledOn f w .ruling)) × (x ≡ wordsAfter w (ruledOn f w))
+  answered b a n x h eb ea en ex =
+      let e = ruled-is b a h eb ea in (en ∙ ap (λ (r : Ruled). numberOf (r .ruling)) e, ex ∙ ap (wordsAfter w) e)
+
+  pub other-cause : (l : List ℕ) → (length w ≡ 5829 → ⊥) → l ≡ causeAfter w (ruledOn f w) l
+  unfolding causeAfter
+  other-cause l h = rw (ne-eqb (length w) 5829 h)

@@ -1,0 +1,18 @@
+-- `nth_width` meets its contract: the table is the list of widths.
+use mathlib.Core.Path.{refl}
+use borrow.Author.Needs.{needs}
+use Rattle.chart.proofs.Laws.{width-sized}
+use Rattle.chart.proofs.scale.nth_width.Statement.{statement}
+use Rattle.chart.proofs.scale.nth_width.Tie as tie
+
+mul-result : tie.Need-mul-result
+mul-result c = search needs
+
+array-read-result : tie.Need-array-read-result
+array-read-result c = search needs
+
+returns : tie.Need-returns
+returns c = let p = width-sized (c .args .k) (c .pre) in (refl, p .0, p .1)
+
+pub nth-width-spec : {M : Type 1} → statement M
+nth-width-spec = tie.close (tie.spec mul-result array-read-result returns)

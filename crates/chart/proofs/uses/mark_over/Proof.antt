@@ -1,0 +1,26 @@
+-- `mark_over` meets its contract: the use covers the column, or it does not.
+use mathlib.Core.Path.{sym, _∙_, ap}
+use borrow.Author.Needs.{needs}
+use Rattle.chart.specs.Chart.{glyphOf}
+use Rattle.chart.proofs.Laws.{mark-over, mark-left}
+use Rattle.chart.proofs.uses.mark_over.Statement.{statement}
+use Rattle.chart.proofs.uses.mark_over.Tie as tie
+
+is-covering-requires : tie.Need-is-covering-requires
+is-covering-requires c κs = search needs
+
+job-of-requires : tie.Need-job-of-requires
+job-of-requires c κs = search needs
+
+glyph-requires : tie.Need-glyph-requires
+glyph-requires c κs = search needs
+
+returns : tie.Need-returns
+returns c = mark-over _ _ _ _ (sym (c .before .before .before .is-covering .ensures) ∙ c .before .before .if1 .taken) (c .glyph .ensures ∙ ap glyphOf (c .before .job-of .ensures .0))
+
+returns-2 : tie.Need-returns-2
+returns-2 c = mark-left _ _ _ (sym (c .before .is-covering .ensures) ∙ c .if1 .left)
+
+pub mark-over-spec : {M : Type 1} → statement M
+mark-over-spec =
+    tie.close (tie.spec is-covering-requires job-of-requires glyph-requires returns returns-2)

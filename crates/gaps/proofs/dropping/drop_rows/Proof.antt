@@ -1,0 +1,62 @@
+-- All rows of the table that is left. The loop's invariant: the rows before a are written, the others hold what they held.
+use mathlib.Core.Path.{_≡_}
+use Prim.Native.Nat.{_≤_, _-_, _*_}
+use native.Mathlib.Omega.{arith}
+use lib.ListN.{length}
+use Rattle.lists.proofs.Rewritten.{rewritten-none, done}
+use Rattle.lists.specs.Loops.{rewritten}
+use Rattle.stn.specs.Table.{pick, oldNumber}
+use Rattle.gaps.specs.Cells.{tableOf, overlay, overlaid}
+use Rattle.gaps.proofs.Dropped.{rows-next}
+use Rattle.gaps.proofs.dropping.drop_rows.Statement.{statement}
+use Rattle.gaps.proofs.dropping.drop_rows.Tie as tie
+
+abbrev Inv-loop : tie.InvT-loop
+Inv-loop next₀ t f m left a₀ next a = (a ≤ left)
+    × (next ≡ rewritten (overlay left (pick (oldNumber f m) (tableOf t)) next₀) next₀ 0 (a * 65))
+    × (length next ≡ 4225)
+
+abbrev μ-loop : tie.MeasureT-loop
+μ-loop next₀ t f m left a₀ next a = left - a
+
+loop-holds : tie.Need-loop-holds Inv-loop μ-loop
+loop-holds c = (omega arith, rewritten-none _ _ 0 _ (omega arith), omega arith)
+
+drop-columns-requires : tie.Need-drop-columns-requires Inv-loop μ-loop
+drop-columns-requires c κs = (omega arith, omega arith, omega arith, omega arith, omega arith)
+
+add-a : tie.Need-add-a Inv-loop μ-loop
+add-a c = omega arith
+
+loop-less : tie.Need-loop-less Inv-loop μ-loop
+loop-less c = omega arith
+
+loop-again : tie.Need-loop-again Inv-loop μ-loop
+loop-again c = let A = c .before .before .before .before .before .before .before .before .args in
+    let L = c .before .before .before .before .before .loop in (
+      omega arith,
+      rows-next (A .t .now) (A .next .now) (L .next) (c .before .before .drop-columns .last .0) (A .f) (A .m) (A .left) (L .a) (omega arith) (omega arith)
+          (omega arith) (L .inv .1) (c .before .before .drop-columns .ensures),
+      omega arith,
+    )
+
+same-length : tie.Need-same-length Inv-loop μ-loop
+same-length c = omega arith
+
+returns : tie.Need-returns Inv-loop μ-loop
+unfolding overlaid
+returns c = done _ _ _ 0 _ (c .before .loop .inv .1) _ (omega arith)
+
+pub drop-rows-spec : {M : Type 1} → statement M
+drop-rows-spec =
+    tie.close
+    (tie.spec
+    Inv-loop
+    μ-loop
+    loop-holds
+    drop-columns-requires
+    add-a
+    loop-less
+    loop-again
+    same-length
+    returns)

@@ -1,0 +1,86 @@
+/* A print line's controller in small: two jobs are offered to the board, one offer is refused, the first job runs and leaves.
+ *
+ * Build it with the board's library (rt staticlib cabi):
+ *     cc -std=c11 -Iinclude examples/controller.c target/staticlib/libcabi.a -o controller
+ */
+#include "snipefeather.h"
+
+#include <stdio.h>
+
+/* A plant of two actions, in 32-bit words (low byte first in the file):
+ *   action 0, print: needs fact 0 (there is a sheet), makes fact 1 (it is printed), 10 to 20 ms, takes resource 0 for its first 10 ms
+ *   action 1, stack: needs fact 1, makes fact 2 (it is stacked), 5 ms */
+static const uint32_t plant_words[] = {
+    1, 0, 2, 0, 10, 20, 1, 0, 0, 10, /* print: needs, needs not, makes, makes not, shortest, longest; one allocation: resource, offset, length */
+    2, 0, 4, 0, 5,  5,  0,           /* stack: no allocation */
+    0, 40, 68, 2, 0x544e4c50,        /* where the records begin; where this index begins, how many actions, the mark PLNT */
+};
+
+/* A sheet that is there is to be printed and stacked; its print comes behind `before` others in the line of resource 0. */
+static size_t offer_words(uint32_t *words, uint32_t known, uint32_t before) {
+    const uint32_t offer[] = {0, known, 0, 4, 0, 2, 0, before, 1}; /* batch, known, known not, goal, goal not; 2 steps: print, its place, stack */
+    const size_t n = sizeof offer / sizeof offer[0];
+    for (size_t k = 0; k < n; k++)
+        words[k] = offer[k];
+    return n;
+}
+
+static size_t to_bytes(uint8_t *bytes, const uint32_t *words, size_t n) {
+    for (size_t k = 0; k < 4 * n; k++)
+        bytes[k] = (uint8_t)(words[k / 4] >> (8 * (k % 4)));
+    return 4 * n;
+}
+
+/* The board, and what is lent beside it, belong to the controller. */
+static uint32_t board[SF_BOARD_WORDS];
+static uint8_t plant[sizeof plant_words];
+static size_t plant_len;
+
+static void plan(const char *sheet, uint32_t known, uint32_t before) {
+    uint32_t words[16];
+    uint8_t offer[64];
+    size_t offer_len = to_bytes(offer, words, offer_words(words, known, before));
+    uint32_t cause;
+    uint32_t number = sf_plan(board, SF_BOARD_WORDS, plant, plant_len, offer, offer_len, &cause, 1);
+    if (number == 0)
+        printf("plan %s: accepted\n", sheet);
+    else
+        printf("plan %s: refused with %u, cause %u\n", sheet, (unsigned)number, (unsigned)cause);
+}
+
+static void told(const char *call, uint32_t number) {
+    if (number == 0)
+        printf("%s: accepted\n", call);
+    else
+        printf("%s: refused with %u\n", call, (unsigned)number);
+}
+
+static void report(void) {
+    static uint32_t rows[4 * SF_MOST_ROWS];
+    if (sf_report(board, SF_BOARD_WORDS, rows, 4 * SF_MOST_ROWS) != 0)
+        return;
+    size_t points = 0;
+    for (uint32_t job = 0; job < board[3]; job++) /* word 3 is the number of jobs, word 4 + 3 k the points of job k */
+        points += board[4 + 3 * job];
+    for (const uint32_t *row = rows; row < rows + 4 * points; row += 4)
+        printf("  job %u, point %u: %u to %u ms\n", (unsigned)row[0], (unsigned)row[1], (unsigned)row[2], (unsigned)row[3]);
+}
+
+int main(void) {
+    plant_len = to_bytes(plant, plant_words, sizeof plant_words / sizeof plant_words[0]);
+
+    told("a fresh board, 1000 ms long", sf_fresh(board, SF_BOARD_WORDS, 1000, 5));
+    plan("sheet A", 1, 0);
+    plan("a sheet that is not there", 0, 1);
+    plan("sheet B, behind A", 1, 1);
+    report();
+
+    told("send the oldest job", sf_send(board, SF_BOARD_WORDS, 0));
+    report();
+
+    told("retire it", sf_retire(board, SF_BOARD_WORDS));
+    told("clock to 20 ms", sf_clock(board, SF_BOARD_WORDS, 20));
+    told("retire it", sf_retire(board, SF_BOARD_WORDS));
+    report();
+    return 0;
+}

@@ -1,0 +1,117 @@
+//! How a call is timed on all forms: in turns, each call on a board of its own that was prepared
+//! outside the timed part. A form's time is the median of its turns.
+
+use crate::forms::{Call, Form, Incremental};
+use crate::ours::Ours;
+use crate::scratch::Scratch;
+use crate::windows::Windows;
+use crate::work::board;
+use std::hint::black_box;
+use std::time::Instant;
+
+/// The calls of a turn: enough that reading the clock counts little, few enough that other work on
+/// the machine seldom falls into a turn.
+const CALLS_A_TURN: usize = 4;
+
+/// One form's board before the call, room for its copies, and the nanoseconds a call took in each turn.
+struct Column<F> {
+    before: F,
+    boards: Vec<F>,
+    turns: Vec<f64>,
+}
+
+impl<F: Form> Column<F> {
+    fn new(before: F) -> Self {
+        Column {
+            boards: vec![before.clone(); CALLS_A_TURN],
+            before,
+            turns: Vec::new(),
+        }
+    }
+
+    /// The ruling's number, and the board after it.
+    fn try_once(&self, call: &Call) -> (u32, F) {
+        let mut board = self.before.clone();
+        (board.make(call), board)
+    }
+
+    fn take_turn(&mut self, call: &Call) {
+        for board in &mut self.boards {
+            board.clone_from(&self.before);
+        }
+        let start = Instant::now();
+        for board in &mut self.boards {
+            black_box(black_box(board).make(black_box(call)));
+        }
+        let nanoseconds = start.elapsed().as_nanos() as f64;
+        self.turns.push(nanoseconds / CALLS_A_TURN as f64);
+    }
+
+    fn microseconds(&mut self) -> f64 {
+        median(&mut self.turns) / 1_000.0
+    }
+}
+
+pub fn median(times: &mut [f64]) -> f64 {
+    times.sort_by(f64::total_cmp);
+    times[times.len() / 2]
+}
+
+/// A call on the same board in every form.
+pub struct Case {
+    pub name: &'static str,
+    pub jobs: usize,
+    call: Call,
+    ours: Column<Ours>,
+    incremental: Column<Incremental>,
+    windows: Column<Windows>,
+    scratch: Column<Scratch>,
+}
+
+impl Case {
+    /// The call on the board that the calls before it lead to, which must get this ruling's number
+    /// from every form; the two forms that stand on words must come to the same words.
+    pub fn new(name: &'static str, jobs: usize, before: &[Call], call: Call, number: u32) -> Self {
+        let case = Case {
+            name,
+            jobs,
+            call,
+            ours: Column::new(board(before)),
+            incremental: Column::new(board(before)),
+            windows: Column::new(board(before)),
+            scratch: Column::new(board(before)),
+        };
+        let (ours, words) = case.ours.try_once(&case.call);
+        let (incremental, expected) = case.incremental.try_once(&case.call);
+        let windows = case.windows.try_once(&case.call).0;
+        let scratch = case.scratch.try_once(&case.call).0;
+        let numbers = [ours, incremental, windows, scratch];
+        assert_eq!(numbers, [number; 4], "{name} at {jobs}");
+        assert!(words.0 == expected.0, "boards differ: {name} at {jobs}");
+        case
+    }
+
+    pub fn take_turns(&mut self) {
+        self.ours.take_turn(&self.call);
+        self.incremental.take_turn(&self.call);
+        self.windows.take_turn(&self.call);
+        self.scratch.take_turn(&self.call);
+    }
+
+    /// Microseconds of a call: ours, incremental, windows, scratch.
+    pub fn microseconds(&mut self) -> [f64; 4] {
+        [
+            self.ours.microseconds(),
+            self.incremental.microseconds(),
+            self.windows.microseconds(),
+            self.scratch.microseconds(),
+        ]
+    }
+}
+
+/// Lets every case take its turns, one after the other, so many rounds.
+pub fn run(cases: &mut [Case], rounds: usize) {
+    for _ in 0..rounds {
+        cases.iter_mut().for_each(Case::take_turns);
+    }
+}

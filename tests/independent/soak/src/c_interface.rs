@@ -1,0 +1,61 @@
+//! The product through include/snipefeather.h.
+
+use independent::log::Item;
+use soak::product::{Lent, Product};
+use std::ptr::{null, null_mut};
+
+extern "C" {
+    fn sf_fact_check(plant: *const u8, plant_len: usize, offer: *const u8, offer_len: usize)
+        -> u32;
+    fn sf_fresh(board: *mut u32, board_len: usize, horizon: u32, lead: u32) -> u32;
+    fn sf_plan(
+        board: *mut u32,
+        board_len: usize,
+        plant: *const u8,
+        plant_len: usize,
+        offer: *const u8,
+        offer_len: usize,
+        cause: *mut u32,
+        cause_len: usize,
+    ) -> u32;
+    fn sf_send(board: *mut u32, board_len: usize, place: u32) -> u32;
+    fn sf_clock(board: *mut u32, board_len: usize, c: u32) -> u32;
+    fn sf_retire(board: *mut u32, board_len: usize) -> u32;
+    fn sf_report(board: *const u32, board_len: usize, rows: *mut u32, rows_len: usize) -> u32;
+}
+
+pub struct CInterface;
+
+impl Product for CInterface {
+    fn ask(&self, item: &Item, lent: Lent) -> u32 {
+        let (board, board_len) = lent_words(lent.board);
+        let (plant, plant_len) = lent_bytes(lent.plant);
+        let (offer, offer_len) = lent_bytes(lent.offer);
+        let (cause, cause_len) = lent_words(lent.cause);
+        let (rows, rows_len) = lent_words(lent.rows);
+        // SAFETY: each pointer is lent with the length of a live slice of its own, or is NULL with
+        // length 0; those that the call writes through come from slices that may be written.
+        unsafe {
+            match item {
+                Item::Fact(_) => sf_fact_check(plant, plant_len, offer, offer_len),
+                Item::Fresh(horizon, lead) => sf_fresh(board, board_len, *horizon, *lead),
+                Item::Plan(_) => sf_plan(
+                    board, board_len, plant, plant_len, offer, offer_len, cause, cause_len,
+                ),
+                Item::Send(place) => sf_send(board, board_len, *place),
+                Item::Clock(to) => sf_clock(board, board_len, *to),
+                Item::Retire => sf_retire(board, board_len),
+                Item::Report(_) => sf_report(board, board_len, rows, rows_len),
+                _ => unreachable!("C has no call for {item}"),
+            }
+        }
+    }
+}
+
+fn lent_words(words: Option<&mut [u32]>) -> (*mut u32, usize) {
+    words.map_or((null_mut(), 0), |words| (words.as_mut_ptr(), words.len()))
+}
+
+fn lent_bytes(bytes: Option<&[u8]>) -> (*const u8, usize) {
+    bytes.map_or((null(), 0), |bytes| (bytes.as_ptr(), bytes.len()))
+}

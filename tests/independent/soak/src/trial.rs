@@ -1,0 +1,127 @@
+//! One list on both sides, step by step, up to the first difference.
+
+use crate::case::{Case, Step};
+use crate::lender::{Lender, Wanted};
+use crate::product::{has_call, Product};
+use crate::range::Range;
+use crate::second::{answer, answer_by_definition, Answer};
+use crate::tally::Tally;
+use independent::board::{BoardCalls, Definition, BOARD_WORDS};
+use independent::log::Item;
+use independent::replay::Session;
+use independent::Refusal;
+
+/// What first differs.
+#[derive(Debug)]
+pub struct Difference {
+    /// The step at which it shows.
+    pub at: usize,
+    /// What each side answered.
+    pub told: String,
+}
+
+/// What both sides go on with between two steps.
+pub struct Trial<'a, P> {
+    lender: Lender<'a, P>,
+    board: Range<u32>,
+    definition: Option<Session<Definition>>,
+}
+
+impl<'a, P: Product> Trial<'a, P> {
+    /// Begins as a list does, with no plant and a board of zeros.
+    pub fn new(product: &'a P, case: &Case, tally: &'a mut Tally) -> Self {
+        let guard = case.guard;
+        let lender = Lender {
+            product,
+            tally,
+            guard,
+            plant: Range::bare(&[]),
+        };
+        Trial {
+            lender,
+            board: Range::guarded(&[0; BOARD_WORDS], guard),
+            definition: case.by_definition.then(Session::default),
+        }
+    }
+
+    pub fn leave_out_definition(&mut self) {
+        self.definition = None;
+    }
+
+    pub fn run<'s>(mut self, steps: impl IntoIterator<Item = &'s Step>) -> Option<Difference> {
+        for (at, step) in steps.into_iter().enumerate() {
+            if let Err(told) = self.step(step) {
+                return Some(Difference { at, told });
+            }
+        }
+        None
+    }
+
+    fn step(&mut self, step: &Step) -> Result<(), String> {
+        match &step.item {
+            Item::Plant(file) => self.lender.plant = Range::bare(file),
+            Item::Board(board) => self.board.set(&board.words()[..]),
+            item if has_call(item) => {
+                self.call_on_another_length(step)?;
+                return self.call(step);
+            }
+            _ => return Ok(()),
+        }
+        if let Some(session) = &mut self.definition {
+            session.answer(&step.item);
+        }
+        Ok(())
+    }
+
+    fn call(&mut self, step: &Step) -> Result<(), String> {
+        let item = &step.item;
+        let answer = answer(item, self.lender.plant.wanted(), self.board.wanted());
+        self.compare_with_definition(item, &answer)?;
+        let refused_fresh = answer == Err(Refusal::HorizonOrLead);
+        let wanted = Wanted::of(item, answer);
+        self.lender.compare(step, &mut self.board, &wanted)?;
+        self.lender.tally.numbers[wanted.number as usize] += 1;
+        if refused_fresh {
+            // C leaves the words; a log goes on with the board of a refused fresh.
+            self.board.set(&[0; BOARD_WORDS]);
+        }
+        Ok(())
+    }
+
+    /// The fact check has no board.
+    fn call_on_another_length(&mut self, step: &Step) -> Result<(), String> {
+        let length = step.lending.other_length;
+        let Some(length) = length.filter(|_| !matches!(step.item, Item::Fact(_))) else {
+            return Ok(());
+        };
+        let mut words = self.board.wanted().to_vec();
+        words.resize(length, 0);
+        let mut board = Range::guarded(&words, self.lender.guard);
+        let wanted = Wanted::of_another_length();
+        let compared = self.lender.compare(step, &mut board, &wanted);
+        compared.map_err(|told| format!("on a board of {length} words: {told}"))?;
+        self.lender.tally.other_lengths += 1;
+        Ok(())
+    }
+
+    /// Holds the fast form against the rule book, in a list in which that is asked.
+    fn compare_with_definition(&mut self, item: &Item, answer: &Answer) -> Result<(), String> {
+        let Some(session) = &mut self.definition else {
+            return Ok(());
+        };
+        self.lender.tally.by_definition += 1;
+        let by_definition = answer_by_definition(session, item);
+        if by_definition != *answer {
+            return Err(format!("fast form {answer:?}, rule book {by_definition:?}"));
+        }
+        // The words of a refused call are compared with those before it.
+        let changes_board = !matches!(item, Item::Fact(_) | Item::Report(_));
+        if answer.is_ok() && changes_board {
+            let words = session.board().board().words();
+            if words[..] != *self.board.wanted() {
+                return Err("fast form and rule book have other words on the board".to_string());
+            }
+        }
+        Ok(())
+    }
+}
