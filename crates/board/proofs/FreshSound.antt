@@ -1,7 +1,7 @@
 -- A fresh board is sound where its settings are in range, and the board of a refused fresh is not.
 --   zero-unsound     the zero board fails the test: its horizon is 0
 --   fresh-origin, fresh-elsewhere, fresh-live   the cells of a fresh table: a gap of 0 at the origin, 0 everywhere else
---   fresh-table      it is a good table of one point;  fresh-sound: the fresh board is sound;  fresh-passes: so it passes the test
+--   fresh-table      it is a good table of one point;  fresh-sound: the fresh board is sound
 use Prim.Native.Nat.{ℕ, zero, suc, _+_, _*_, _≤_, _<_}
 use mathlib.Core.Path.{_≡_, refl, sym, _∙_, ap}
 use mathlib.Core.Logic.{_⊎_, inl, inr}
@@ -22,7 +22,6 @@ use Rattle.board.specs.declared.Settings.{Settings}
 use Rattle.board.specs.Boards.{badSettings, zeroCells, freshCells, freshBoard, zeroBoard}
 use Rattle.lists.specs.All.{All}
 use Rattle.sound.specs.Sound.{SizedUse, Sound, sound}
-use Rattle.sound.proofs.Soundness.{sound-of}
 
 pub zero-unsound : sound zeroBoard ≡ false
 unfolding sound zeroBoard fresh
@@ -103,7 +102,3 @@ module _ (s : Settings) (good : badSettings s ≡ false) where
         sent-still = tt;
         table = fresh-table (s .horizon);
       }
-
-  pub fresh-passes : sound (freshBoard s) ≡ true
-  unfolding freshBoard fresh emptyLines
-  fresh-passes = sound-of (freshBoard s) refl fresh-sound

@@ -1,8 +1,8 @@
 -- The board and what it holds.
 --   stateOf b      the plain machine's state that a board holds: jobs, lines, clock, horizon and lead
 --   boardOf s l    the board of a state and a list of cells, with 0 in every place not in use
---   freshCells     the table of the origin alone
---   settings H D   5: H or D is out of range
+--   freshCells     the table of the origin alone;  zeroCells: all 0
+--   badSettings s  5: the horizon or the lead is out of range
 --   freshBoard     a fresh board;  zeroBoard: the board of a refused fresh
 --   freshRuled     the answer to fresh
 use Prim.Native.Nat.{ℕ}

@@ -9,7 +9,7 @@
 --   clocked b c       clock: 6, 19, 20, or the board with its clock moved
 --   retired b         retire: 6, 21, or the board without its oldest job
 -- Jobs, lines, clock and rules are the plain machine's, as in the rule book; the table is the list of its cells. That the cells are the
--- gaps over the timetables meant, on every sound board, is proved in the crate demands.
+-- gaps over the timetables meant, on every sound board, is proved in the crate agreement.
 use Prim.Native.Nat.{ℕ, suc, _+_}
 use mathlib.Core.Bool.{cond, not}
 use mathlib.Core.List.{List}

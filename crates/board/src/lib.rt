@@ -1,5 +1,6 @@
 // The board's calls. A board goes in by value and comes back by value, so that a refusal is the very board that came. Each call has a form
 // that ends in `_on`: its table is lent where it lies, and only the frame, the rest of the board, goes in and comes back.
+// It may use the readers, the parts of the board and the rule book's definitions.
 mod clocking; // the clock moved
 mod parts; // what the calls share
 mod planning; // a job planned

@@ -1,6 +1,7 @@
 // A fresh board.
 use crate::Ruled;
 use crate::Settings;
+use gaps::BIAS;
 use lines::Jobs;
 use lines::Line;
 use plain::Job;
@@ -13,8 +14,6 @@ ghost use mathlib.Core.List.{[]};
 ghost use Rattle.lines.specs.Held.{jobsFrom, lineFrom, linesFrom};
 ghost use Rattle.rulebook.specs.Book.{emptyLines};
 ghost use Rattle.board.specs.Boards.{badSettings, zeroCells, freshCells, zeroBoard, freshBoard, freshRuled};
-
-const BIAS: u32 = 100_000_000;
 
 fn no_jobs() -> Jobs
     ensures { λ r. ⌜ r ≡ jobsFrom [] ⌝ }

@@ -1,5 +1,6 @@
 // A board and its words: 5,829 of them, in the order of specs/Words. Words come from outside and may be any: whether the board is sound is for
 // the board's calls to say.
+// It may use words, lists and the structs of a board (plain, lines, sound), and rules on nothing.
 mod reading; // a board from its words
 mod writing; // a board as its words
 

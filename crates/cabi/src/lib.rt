@@ -1,6 +1,7 @@
 // The board's calls from C (include/snipefeather.h), on a board that is lent as its words. Words that are not as many as a board has are
 // refused with 6, and nothing is written. The frame, the first 1,604 words, is read and written by value; the gap table behind it is worked on
 // where it lies.
+// It may use board, report and boardwords, and decides nothing but the number of words.
 mod reporting; // the rows of a board written as words
 
 use board::Framed;

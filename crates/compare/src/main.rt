@@ -1,5 +1,6 @@
 // Compares the boards that two logs end with: `compare FILE FILE` replays both and says whether the gap tables are equal in every entry,
 // which is whether the same timetables are possible on both boards.
+// It may use session and what it shows, and decides nothing of a call.
 use boardtext::put_gap;
 use libc::STDOUT_FILENO;
 use session::Options;

@@ -1,4 +1,5 @@
 // What a refusal means, in words. They are those of the first table of docs/REFUSALS.md, so that an operator need not look the number up.
+// It may use text and rulings.
 use rulings::Cause;
 use rulings::Ruling;
 use rulings::is_valued;

@@ -1,6 +1,6 @@
 -- The test of a table says what document 01 asks of it, and the table is closed then.
---   top, lifted-test, joined-test   how `way_holds` tells a fault: a difference that is lifted reaches the top bit, and with all joined the bit
---                               is there where one has it
+--   top, lifted-test, joined-test   how `way_holds` tells a good cell: the way less the cell, lifted, has the top bit, and with all joined the
+--                               bit is there where each has it
 --   inRange-to                  each cell is at most its limit;  inRange-bounded: so sums of live cells are small
 --   bounded-follows             the clause on the bound says no more than the others do
 --   gapTable-to, gapTable-of    the test is true exactly where GapTable holds
@@ -9,11 +9,11 @@
 use mathlib.Core.Bool.{true, _&&_}
 use mathlib.Core.List.{List}
 use mathlib.Core.Logic.{_⊎_, inl, inr}
-use mathlib.Core.Path.{_≡_, refl, sym, _∙_}
-use Prim.Native.Nat.{ℕ, _+_, _-_, _≤_, _<_}
+use mathlib.Core.Path.{_≡_, refl, sym, _∙_, ap₂}
+use Prim.Native.Nat.{ℕ, _+_, _-_, _*_, _^_, _≤_, _<_}
 use native.Mathlib.Decide.{decLt, decLe}
 use native.Mathlib.Omega.{arith}
-use lib.Bits.{bitOr, or-lt, or-add-and, and-le-l, and-le-r}
+use lib.Bits.{bitAnd, and-block, and-le-l, and-le-r}
 use lib.Dec.{leb, ltb, eqb}
 use lib.ListN.{length}
 use borrow.Author.Tests.{lt-ltb, le-ltb, le-leb, lt-leb, leb-true, eqb-true, eq-eqb}
@@ -32,26 +32,28 @@ use Rattle.gaps.proofs.Grown.{grown-agree, grown-rest}
 abbrev pub top : ℕ
 top = 2147483648
 
-pub joined-test : (a b : ℕ) → ltb (bitOr a b) top ≡ (ltb a top && ltb b top)
-joined-test a b = go (decLt a top) (decLt b top)
+pub joined-test :
+    (a b : ℕ) → a < 4294967296 → b < 4294967296 → leb top (bitAnd a b) ≡ (leb top a && leb top b)
+joined-test a b ha hb = go (decLe top a) (decLe top b)
   where
-    go : Dec (a < top) → Dec (b < top) → ltb (bitOr a b) top ≡ (ltb a top && ltb b top)
-    go (yes x) (yes y) = rw (lt-ltb a top x, lt-ltb b top y) (lt-ltb (bitOr a b) top (or-lt 31 a b x y))
+    go : Dec (top ≤ a) → Dec (top ≤ b) → leb top (bitAnd a b) ≡ (leb top a && leb top b)
+    go (yes x) (yes y) =
+        let e : a ≡ 1 * 2 ^ 31 + (a - top) = omega arith in
+        let d : b ≡ 1 * 2 ^ 31 + (b - top) = omega arith in
+        let joined = ap₂ bitAnd e d ∙ and-block 31 1 1 (a - top) (b - top) (omega arith) (omega arith) in
+        rw (le-leb top a x, le-leb top b y) (le-leb top (bitAnd a b) (omega (arith, joined)))
     go (yes x) (no y) =
-        rw (lt-ltb a top x, le-ltb b top (omega arith))
-        (le-ltb (bitOr a b) top (omega (arith, or-add-and a b, and-le-l a b)))
-    go (no x) d =
-        rw (le-ltb a top (omega arith)) (le-ltb (bitOr a b) top (omega (arith, or-add-and a b, and-le-r a b)))
+        rw (le-leb top a x, lt-leb top b (omega arith)) (lt-leb top (bitAnd a b) (omega (arith, and-le-r a b)))
+    go (no x) d = rw (lt-leb top a (omega arith)) (lt-leb top (bitAnd a b) (omega (arith, and-le-l a b)))
 
 pub lifted-test :
-    (direct via onward : ℕ) → via ≤ bias + bias → onward ≤ bias + bias
-    → ltb (direct + (bias + top - 1 - via) - onward) top ≡ leb (direct + bias) (via + onward)
-lifted-test direct via onward hv ho = go (decLe (direct + bias) (via + onward))
+    (direct via onward : ℕ) → direct ≤ bias + bias
+    → leb top (via + (top - bias) + onward - direct) ≡ leb (direct + bias) (via + onward)
+lifted-test direct via onward hd = go (decLe (direct + bias) (via + onward))
   where
-    go : Dec (direct + bias ≤ via + onward)
-        → ltb (direct + (bias + top - 1 - via) - onward) top ≡ leb (direct + bias) (via + onward)
-    go (yes h) = rw (le-leb (direct + bias) (via + onward) h) (lt-ltb (direct + (bias + top - 1 - via) - onward) top (omega arith))
-    go (no h) = rw (lt-leb (direct + bias) (via + onward) (omega arith)) (le-ltb (direct + (bias + top - 1 - via) - onward) top (omega arith))
+    go : Dec (direct + bias ≤ via + onward) → leb top (via + (top - bias) + onward - direct) ≡ leb (direct + bias) (via + onward)
+    go (yes h) = rw (le-leb (direct + bias) (via + onward) h) (le-leb top (via + (top - bias) + onward - direct) (omega arith))
+    go (no h) = rw (lt-leb (direct + bias) (via + onward) (omega arith)) (lt-leb top (via + (top - bias) + onward - direct) (omega arith))
 
 -- ---- the range test
 

@@ -2,6 +2,7 @@
 // time of j minus the time of i can be, plus the bias; every other cell holds 0.
 //
 // Every function takes the table as a slice, of 4225 cells. What it requires beside that keeps sums within 32 bits.
+// It may use stn, lists and plain; no board is known here.
 mod adding; // a rule added, and whether it agrees
 mod copying; // cells copied
 mod dropping; // points dropped
@@ -22,7 +23,8 @@ ghost use lib.ListN.{length};
 ghost use Rattle.stn.specs.Table.{earliest, latest};
 ghost use Rattle.gaps.specs.Cells.{tableOf};
 
-const BIAS: u32 = 100_000_000;
+// What is added to a gap where it is stored: the least gap is then 0.
+pub const BIAS: u32 = 100_000_000;
 
 // What is left of a when b is taken away, and 0 where b is more.
 fn minus(a: u32, b: u32) -> u32

@@ -7,10 +7,10 @@ ghost use Rattle.stn.specs.Table.{bias};
 ghost use Rattle.gaps.specs.Cells.{tableOf, Bounded};
 ghost use Rattle.gaps.specs.GapTable.{limit, rowInRange, inRange, isDiagonal, inWindows, wayHolds, rowHolds, isClosed, isGapTable};
 
-// The bit by which the triangle test tells a fault, and what lifts a difference to it.
+// The bit by which the triangle test tells that a cell is good, and what lifts a difference to it.
 const TOP: u32 = 2_147_483_648;
 
-const LIFT: u32 = BIAS + TOP - 1;
+const LIFT: u32 = TOP - BIAS;
 
 // The largest that the cell (i, j) may hold in a table of n live points.
 fn limit(n: usize, i: usize, j: usize) -> u32
@@ -74,8 +74,8 @@ fn in_windows(t: &[u32], n: usize, horizon: u32) -> bool
     ok
 }
 
-// No cell of row i exceeds the way by point j. A cell less the way is lifted, so that it reaches the top bit exactly where the cell exceeds;
-// and the bits of all are joined, and looked at once. An unsigned comparison for each cell takes nearly twice the time.
+// No cell of row i exceeds the way by point j. The way less a cell is lifted, so that it has the top bit exactly where the cell does not exceed
+// it; the bits are joined, and looked at once. The way stands before the cell, so that what is lifted is one number for the whole loop.
 fn way_holds(t: &[u32], n: usize, i: usize, j: usize) -> bool
     requires { ⌜ (length (now t) ≡ 4225) × (n ≤ 65) × (i < n) × (j < n) ⌝ }
     requires { ⌜ Bounded n (tableOf (now t)) ⌝ }
@@ -83,12 +83,12 @@ fn way_holds(t: &[u32], n: usize, i: usize, j: usize) -> bool
 {
     let direct = i * 65;
     let onward = j * 65;
-    let lift = LIFT - t[direct + j];
-    let mut over = 0;
+    let way = t[direct + j] + LIFT;
+    let mut all = TOP;
     for k in 0..n {
-        over = over | (t[direct + k] + lift - t[onward + k]);
+        all = all & (way + t[onward + k] - t[direct + k]);
     }
-    over < TOP
+    TOP <= all
 }
 
 // No cell of row i exceeds the way by any point.

@@ -2,7 +2,7 @@
 --   placed-far, placed-full, placed-on   the plain machine: the first allocation is stopped by 15, by 16, or is put in
 --   line-size, line-few, line-short      a line of lines that are Ready
 --   stays-ready                          lines stay Ready when a use is put in
---   Outcome, stops, puts-in              one allocation: it is stopped, or put in
+--   turn-stops, turn-puts-in             one allocation: it is stopped, or put in
 --   first-rule, used-short               what the code needs on the way
 --   Going, goes-on, stops-here, all-placed   all allocations, one after the other
 use Prim.Native.Nat.{ℕ, zero, suc, _+_, _-_, _≤_, _<_}
@@ -20,6 +20,7 @@ use Rattle.rulings.specs.declared.Ruling.{Ruling}
 use Rattle.rulings.specs.declared.Ruling.the-variants.{Accepted, Refused}
 use Rattle.plain.specs.Plain.{noUse, inserted, ruleBefore, ruleAfter, usedFrom, Placed, placed}
 use Rattle.lines.specs.Held.{lineOf, lineFrom, linesOf, linesFrom, rulesOf, rulesFrom, noLine, answered, answerOf}
+use Rattle.lines.specs.Turned.{Outcome, Turned}
 use Rattle.lines.specs.Asked.{Short, AllShort, Ready, Room, Readable}
 use Rattle.plain.specs.declared.Use.{Use}
 use Rattle.lines.specs.declared.Line.{Line}
@@ -27,6 +28,7 @@ use Rattle.plain.specs.declared.Put.{Put}
 use Rattle.plain.specs.declared.Rule.{Rule}
 use Rattle.lines.specs.declared.rulelist.Rules.{Rules}
 use Rattle.lines.specs.declared.placing.Placing.{Placing}
+use Rattle.lines.specs.declared.placing.Turn.{Turn}
 use Rattle.lines.proofs.Padded.{length-padded}
 use Rattle.lines.proofs.Lists.{map-set, map-at, set-all}
 use Rattle.lines.proofs.LineLaws.{line-back, length-inserted}
@@ -109,18 +111,22 @@ stays-ready lines r p u new ready h s room e =
 
 -- ---- one allocation
 
--- how it went from `now` to r, where the plain machine says p
-abbrev pub Outcome : Placing → Placing → Placed → Type 0
-Outcome now r p = (answerOf r ≡ p) × (Ready (r .lines) × ((n : ℕ) → Room (2 + n) (now .rules) → Room n (r .rules)))
+-- the line that stands there already, put there
+set-same : (lines : List Line) (r : ℕ) (line : Line) → getD lines r noLine ≡ line → set lines r line ≡ lines
+set-same [] r line e = refl
+set-same (l ∷ ls) zero line e = ap (λ (x : Line). x ∷ ls) (sym e)
+set-same (l ∷ ls) (suc r) line e = ap (_∷_ l) (set-same ls r line e)
 
-pub stops :
-    (now r : Placing) (p : Placed) (c : Cause) → Ready (now .lines) → (r .ruling ≡ Refused c) × (r .lines ≡ now .lines) × (r .rules ≡ now .rules)
-    → p ≡ Placed.stop c → Outcome now r p
+pub turn-stops :
+    (lines : List Line) (rules : Rules) (put : Put) (line : Line) (t : Turn) (p : Placed) (c : Cause)
+    → Ready lines → getD lines (put .resource) noLine ≡ line → (t .ruling ≡ Refused c) × (t .line ≡ line) × (t .rules ≡ rules)
+    → p ≡ Placed.stop c → Turned lines rules put t p
 unfolding answered
-stops now r p c ready is e = (
-  ap (λ (x : Ruling). answered x (linesOf (r .lines)) (rulesOf (r .rules))) (is .0) ∙ sym e,
-  (subst Ready (sym (is .1)) ready, λ n room. subst (Room n) (sym (is .2)) (Room-less room n (omega arith))),
-)
+turn-stops lines rules put line t p c ready at is e =
+    let same : set lines (put .resource) (t .line) ≡ lines = ap (set lines (put .resource)) (is .1) ∙ set-same lines (put .resource) line at in (
+      ap (λ (x : Ruling). answered x (linesOf (set lines (put .resource) (t .line))) (rulesOf (t .rules))) (is .0) ∙ sym e,
+      (subst Ready (sym same) ready, λ n room. subst (Room n) (sym (is .2)) (Room-less room n (omega arith))),
+    )
 
 pub used-short : (x : ℕ) (p : Put) (u : Use) → Readable p → u ≡ usedFrom x p → Short u
 unfolding usedFrom
@@ -144,7 +150,7 @@ both-rules {q = q} n one two l p u room e f =
     )
 
 -- the allocation is put in: the rules with its neighbours and its line are those of the plain machine
-pub puts-in :
+puts-in :
     (now : Placing) (x i : ℕ) (p : Put) (u : Use) (one two : Rules) (new : Line)
     → Ready (now .lines) → Room 2 (now .rules) → Readable p
     → let line = getD (now .lines) (p .resource) noLine in
@@ -171,6 +177,16 @@ puts-in now x i p u one two new ready room good hp few eu e1 e2 en =
           ∙ sym (placed-on x i p [] ls rs l (of-at (now .lines) r) (omega arith) (omega arith)),
       (lined .1, λ n more. both-rules n one two l (p .place) u more e1 e2 .0),
     )
+
+pub turn-puts-in :
+    (lines : List Line) (rules : Rules) (line : Line) (x i : ℕ) (p : Put) (u : Use) (one two : Rules) (new : Line)
+    → Ready lines → getD lines (p .resource) noLine ≡ line → Room 2 rules → Readable p → p .place ≤ line .count → line .count < 32
+    → u ≡ usedFrom x p → one ≡ rulesFrom (rulesOf rules ++ ruleBefore (lineOf line) (p .place) u)
+    → two ≡ rulesFrom (rulesOf one ++ ruleAfter (lineOf line) (p .place) u) → new ≡ lineFrom (inserted (p .place) u (lineOf line))
+    → Turned lines rules p (record { ruling = Accepted; line = new; rules = two }) (placed x i (p ∷ []) (linesOf lines) (rulesOf rules))
+turn-puts-in lines rules line x i p u one two new ready at room good hp few eu e1 e2 en =
+    puts-in (record { ruling = Accepted; lines = lines; rules = rules }) x i p u one two new ready room good (rw at hp) (rw at few) eu (rw at e1)
+    (rw at e2) (rw at en)
 
 -- ---- one allocation after the other
 

@@ -1,4 +1,5 @@
 // Jobs, lines and collected rules by value: the plain machine's code.
+// It may use plain and rulings; it knows neither bytes nor a table.
 mod drafting; // what an offer comes to before timetables are looked at
 mod joblist; // the list of jobs
 mod leaving; // what stays when points leave

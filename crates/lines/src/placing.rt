@@ -1,10 +1,12 @@
 // The allocations of an offer put into the lines, one after the other, with the rules (d) that each makes.
 ghost use mathlib.Core.Path.{_≡_};
-ghost use mathlib.Core.List.{[], _∷_};
-ghost use Prim.Native.Nat.{ℕ, _+_, _≤_};
+ghost use mathlib.Core.List.{List, [], _∷_};
+ghost use Prim.Native.Nat.{_≤_};
+ghost use lib.ListN.{getD};
 ghost use Rattle.plain.specs.Plain.{usedFrom, placed};
-ghost use Rattle.lines.specs.Held.{linesOf, rulesOf, putsOf, answerOf};
-ghost use Rattle.lines.specs.Asked.{Ready, Room, Readable, Read};
+ghost use Rattle.lines.specs.Held.{lineOf, linesOf, rulesOf, putsOf, noLine, answerOf};
+ghost use Rattle.lines.specs.Turned.{Turned};
+ghost use Rattle.lines.specs.Asked.{AllShort, Ready, Room, Readable, Read};
 use crate::Line;
 use crate::Puts;
 use crate::Rules;
@@ -35,47 +37,46 @@ fn used_from(first: u32, put: Put) -> Use
     }
 }
 
-// Stopped, with lines and rules as they are.
-fn stopped(now: Placing, cause: Cause) -> Placing
-    ensures { λ r. ⌜ (r .ruling ≡ Ruling.Refused cause) × (r .lines ≡ now .lines) × (r .rules ≡ now .rules) ⌝ }
+// How one allocation went: its line and the rules after it, and why it was stopped, if it was.
+pub struct Turn {
+    pub ruling: Ruling,
+    pub line: Line,
+    pub rules: Rules,
+}
+
+// Stopped, with line and rules as they are.
+fn stopped(line: Line, rules: Rules, cause: Cause) -> Turn
+    ensures { λ r. ⌜ (r .ruling ≡ Ruling.Refused cause) × (r .line ≡ line) × (r .rules ≡ rules) ⌝ }
 {
-    let lines = now.lines;
-    let rules = now.rules;
-    Placing {
+    Turn {
         ruling: Ruling::Refused(cause),
-        lines,
+        line,
         rules,
     }
 }
 
 // Allocation i put into its line. 15 "A place exceeds the number in its line at that moment", and then 16 "The line has 32 already".
-fn place_one(now: Placing, first: u32, i: u32, put: Put) -> Placing
-    requires { ⌜ Ready (now .lines) × Room 2 (now .rules) × (first ≤ 64) × Readable put ⌝ }
-    ensures answer { λ r. ⌜ answerOf r ≡ placed first i (put ∷ []) (linesOf (now .lines)) (rulesOf (now .rules)) ⌝ }
-    ensures ready { λ r. ⌜ Ready (r .lines) ⌝ }
-    ensures room { λ r. ⌜ ((n : ℕ) → Room (2 + n) (now .rules) → Room n (r .rules)) ⌝ }
+fn place_one(line: Line, rules: Rules, first: u32, i: u32, put: Put) -> Turn
+    requires { ⌜ Room 2 rules × (first ≤ 64) × Readable put × (line .count ≤ 32) × AllShort (lineOf line) ⌝ }
+    ensures { λ r. ⌜ ((lines : List Line) → Ready lines → getD lines (put .resource) noLine ≡ line → Turned lines rules put r (placed first i (put ∷ []) (linesOf lines) (rulesOf rules))) ⌝ }
 {
-    let mut lines = now.lines;
-    let at = put.resource as usize;
     let place = put.place as usize;
-    let line = lines[at];
     if line.count < place {
-        return stopped(now, Cause::Allocation(15, i));
+        return stopped(line, rules, Cause::Allocation(15, i));
     }
     if 32 <= line.count {
-        return stopped(now, Cause::Allocation(16, i));
+        return stopped(line, rules, Cause::Allocation(16, i));
     }
     let u = used_from(first, put);
-    let rules = add_before(now.rules, line, place, u);
-    lines[at] = insert(line, place, u);
-    Placing {
+    let one = add_before(rules, line, place, u);
+    Turn {
         ruling: Ruling::Accepted,
-        lines,
-        rules: add_after(rules, line, place, u),
+        line: insert(line, place, u),
+        rules: add_after(one, line, place, u),
     }
 }
 
-// All allocations of an offer put into their lines, or the first that is stopped and lines and rules as they came. A place counts what
+// All allocations of an offer put into their lines, or the first that is stopped and lines and rules as they are then. A place counts what
 // stands in the line at that moment, the offer's earlier allocations with it.
 pub fn place_all(first: u32, puts: Puts, lines: [Line; 16], rules: Rules) -> Placing
     requires { ⌜ (first ≤ 64) × Read puts × Ready lines × Room 65 rules ⌝ }
@@ -83,20 +84,29 @@ pub fn place_all(first: u32, puts: Puts, lines: [Line; 16], rules: Rules) -> Pla
     ensures ready { λ r. ⌜ Ready (r .lines) ⌝ }
     ensures room { λ r. ⌜ Room 1 (r .rules) ⌝ }
 {
-    let start = Placing {
-        ruling: Ruling::Accepted,
-        lines,
-        rules,
-    };
-    let mut now = start;
+    let mut held = lines;
+    let mut made = rules;
     for k in 0..puts.count {
         let put = puts.puts[k];
-        let next = place_one(now, first, k as u32, put);
-        let ruling = next.ruling;
+        let at = put.resource as usize;
+        let line = held[at];
+        let turn = place_one(line, made, first, k as u32, put);
+        let ruling = turn.ruling;
         if let Ruling::Refused(cause) = ruling {
-            return stopped(start, cause);
+            return Placing {
+                ruling: Ruling::Refused(cause),
+                lines: held,
+                rules: made,
+            };
         }
-        now = next;
+        let changed = turn.line;
+        held[at] = changed;
+        let more = turn.rules;
+        made = more;
     }
-    now
+    Placing {
+        ruling: Ruling::Accepted,
+        lines: held,
+        rules: made,
+    }
 }

@@ -1,6 +1,7 @@
 // Replays a call log: `replay [--explain] [--chart] [FILE]` reads the log from the file, or from standard input where none is named, and
 // writes the answers to standard output. With --explain each refusal is followed by its meaning in words; with --chart a picture of the
 // last board ends the output, where no error has ended the log.
+// It may use session and what it shows, and decides nothing of a call.
 mod arguments;
 
 use arguments::Asked;

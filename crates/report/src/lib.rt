@@ -1,11 +1,12 @@
 // The report: the rows of a sound board, one for each live point but the origin, in number order.
 //
 // `rows_of` gives them by value. `report` writes them into a list that the caller lends: it and `fill`, which stores, take a lent list of
-// structs, which the borrow checker does not cover, so that each is proved by a walk of its code. They are kept as thin as can be: `ask` rules,
+// structs, which the prover's own walk does not cover, so that each is walked by hand. They are kept as thin as can be: `ask` rules,
 // gives the rows and says how many are to be stored, none where it refuses.
 //
 // `report_into` is the report for callers that are to be covered: an array comes in and goes out by value, and the front of it is the list.
 // `report_front`, which lends it, is walked too.
+// It may use board (the answer), sound, lines and gaps; it changes no board.
 use board::Ruled;
 use gaps::earliest;
 use gaps::latest;

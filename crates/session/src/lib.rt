@@ -1,5 +1,6 @@
 // The replay of a log, for the programs: lines are taken from a descriptor, ruled on, and answered into a lent buffer. A log of any length
 // takes the same memory: the buffer is written to standard output whenever it holds much, and what waits at the end is left to the program.
+// It may use calls and explain, and of the kit io, os and libc.
 mod input;
 
 use calls::Answer;

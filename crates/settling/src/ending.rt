@@ -1,5 +1,6 @@
 // Whether points that leave, the m points from f on, are over by the clock in every timetable: the last of them, and each use of them. The
 // rules that say so are not collected: each is looked up in the table where it would be made.
+use gaps::BIAS;
 use lines::Line;
 use lines::goes;
 use plain::Use;
@@ -12,8 +13,6 @@ ghost use Rattle.lines.specs.Asked.{Short, AllShort, Lined};
 ghost use Rattle.stn.specs.Table.{implied};
 ghost use Rattle.gaps.specs.Cells.{tableOf};
 ghost use Rattle.settling.specs.Ending.{InReach};
-
-const BIAS: u32 = 100_000_000;
 
 // A use of a point that leaves ends by the clock; nothing is asked of one that stays.
 fn use_ends(t: &[u32], clock: u32, f: u32, m: u32, u: Use) -> bool

@@ -2,6 +2,8 @@
 // array before the array is walked, and each number with its limit before it is added to another.
 //
 // Each function is one clause of the test in specs/Sound.
+// It may use gaps, lines and plain, and rules on soundness alone.
+use gaps::BIAS;
 use gaps::is_gap_table;
 use lines::Jobs;
 use lines::Line;
@@ -19,8 +21,6 @@ ghost use Rattle.lines.specs.Held.{jobsOf, lineOf};
 ghost use Rattle.lines.specs.Asked.{Sized};
 ghost use Rattle.sound.specs.Framed.{frameOf, whole};
 ghost use Rattle.sound.specs.Sound.{allOf, sizedNumbers, sizedJob, sizedJobs, sizedUse, sizedLine, sentFrom, standStill, stillJob, stillSent, sound};
-
-const BIAS: u32 = 100_000_000;
 
 // The jobs under way, the lines of their uses, and the gap table: cell (i, j) at 65 i + j holds the gap from i to j plus the bias.
 pub struct Board {

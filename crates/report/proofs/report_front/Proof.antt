@@ -1,6 +1,6 @@
 -- `report_front` meets its contract: a walk of its code, by hand. The first n rows of a local array are lent as a `&mut [Row]` for a lifetime
 -- that is made for the call, and come back with what `report` left. All that the walk knows of `report` and `pack` is that each meets its
--- contract. There is no reference in its signature, so that the borrow checker covers its callers. Assumes nothing.
+-- contract. There is no reference in its signature, so that the prover's own walk covers its callers. Assumes nothing.
 --   goes-report, goes-pack   the caller has what each callee asks
 --   whole                    the record that is returned, of what the two say
 --   exits                    what the function gives back when it returns
