@@ -1,30 +1,14 @@
 //! The product through its C interface (include/snipefeather.h), as a controller calls it.
 
+#[path = "../../c_calls.rs"]
+mod c_calls;
+
 use crate::forms::{Call, Form};
+use c_calls::{sf_clock, sf_fact_check, sf_fresh, sf_plan, sf_report, sf_retire, sf_send};
 use independent::board::{BOARD_WORDS, MOST_POINTS};
 use std::hint::black_box;
 
 const ROW_WORDS: usize = 4;
-
-extern "C" {
-    fn sf_fact_check(plant: *const u8, plant_len: usize, offer: *const u8, offer_len: usize)
-        -> u32;
-    fn sf_fresh(board: *mut u32, board_len: usize, horizon: u32, lead: u32) -> u32;
-    fn sf_plan(
-        board: *mut u32,
-        board_len: usize,
-        plant: *const u8,
-        plant_len: usize,
-        offer: *const u8,
-        offer_len: usize,
-        cause: *mut u32,
-        cause_len: usize,
-    ) -> u32;
-    fn sf_send(board: *mut u32, board_len: usize, place: u32) -> u32;
-    fn sf_clock(board: *mut u32, board_len: usize, c: u32) -> u32;
-    fn sf_retire(board: *mut u32, board_len: usize) -> u32;
-    fn sf_report(board: *const u32, board_len: usize, rows: *mut u32, rows_len: usize) -> u32;
-}
 
 pub fn fact_check(plant: &[u8], offer: &[u8]) -> u32 {
     let (plant, plant_len) = (plant.as_ptr(), plant.len());

@@ -1,28 +1,12 @@
 //! The product through include/snipefeather.h.
 
+#[path = "../../c_calls.rs"]
+mod c_calls;
+
+use c_calls::{sf_clock, sf_fact_check, sf_fresh, sf_plan, sf_report, sf_retire, sf_send};
 use independent::log::Item;
 use soak::product::{Lent, Product};
 use std::ptr::{null, null_mut};
-
-extern "C" {
-    fn sf_fact_check(plant: *const u8, plant_len: usize, offer: *const u8, offer_len: usize)
-        -> u32;
-    fn sf_fresh(board: *mut u32, board_len: usize, horizon: u32, lead: u32) -> u32;
-    fn sf_plan(
-        board: *mut u32,
-        board_len: usize,
-        plant: *const u8,
-        plant_len: usize,
-        offer: *const u8,
-        offer_len: usize,
-        cause: *mut u32,
-        cause_len: usize,
-    ) -> u32;
-    fn sf_send(board: *mut u32, board_len: usize, place: u32) -> u32;
-    fn sf_clock(board: *mut u32, board_len: usize, c: u32) -> u32;
-    fn sf_retire(board: *mut u32, board_len: usize) -> u32;
-    fn sf_report(board: *const u32, board_len: usize, rows: *mut u32, rows_len: usize) -> u32;
-}
 
 pub struct CInterface;
 

@@ -1,0 +1,25 @@
+//! The calls of include/snipefeather.h, for the benchmark and for soak.
+
+extern "C" {
+    pub fn sf_fact_check(
+        plant: *const u8,
+        plant_len: usize,
+        offer: *const u8,
+        offer_len: usize,
+    ) -> u32;
+    pub fn sf_fresh(board: *mut u32, board_len: usize, horizon: u32, lead: u32) -> u32;
+    pub fn sf_plan(
+        board: *mut u32,
+        board_len: usize,
+        plant: *const u8,
+        plant_len: usize,
+        offer: *const u8,
+        offer_len: usize,
+        cause: *mut u32,
+        cause_len: usize,
+    ) -> u32;
+    pub fn sf_send(board: *mut u32, board_len: usize, place: u32) -> u32;
+    pub fn sf_clock(board: *mut u32, board_len: usize, c: u32) -> u32;
+    pub fn sf_retire(board: *mut u32, board_len: usize) -> u32;
+    pub fn sf_report(board: *const u32, board_len: usize, rows: *mut u32, rows_len: usize) -> u32;
+}
