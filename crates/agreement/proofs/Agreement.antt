@@ -8,7 +8,7 @@ use Rattle.rulings.specs.declared.Ruling.{Ruling}
 use Rattle.plain.specs.Plain.{State}
 use Rattle.gaps.specs.Cells.{tableOf}
 use Rattle.rulebook.specs.Book.{Book, Call, plan, send, clock, retire, Step}
-use Rattle.sound.specs.declared.Board.{Board}
+use Rattle.boardwords.specs.declared.Board.{Board}
 use Rattle.sound.specs.Sound.{Sound}
 use Rattle.board.specs.declared.Ruled.{Ruled}
 use Rattle.demands.specs.Model.{Answer, step}

@@ -19,7 +19,7 @@ use Rattle.stn.specs.Table.{Fits}
 use Rattle.gaps.specs.Cells.{cell, tableOf}
 use Rattle.gaps.proofs.GapTable.{gapTable-closed}
 use Rattle.rulebook.specs.Book.{Point, joined, Possible}
-use Rattle.sound.specs.declared.Board.{Board}
+use Rattle.boardwords.specs.declared.Board.{Board}
 use Rattle.lists.specs.All.{All}
 use Rattle.sound.specs.Sound.{SizedJob, SizedUse, Sound}
 use Rattle.demands.specs.Beside.{LineIn, LinesIn, JobsIn, Holds, Sim}

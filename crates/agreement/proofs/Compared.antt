@@ -5,7 +5,7 @@ use Prim.Native.Nat.{suc}
 use mathlib.Core.Path.{_≡_, sym, _∙_, ap}
 use native.Mathlib.Omega.{arith}
 use Rattle.plain.specs.Plain.{liveCount}
-use Rattle.sound.specs.declared.Board.{Board}
+use Rattle.boardwords.specs.declared.Board.{Board}
 use Rattle.sound.specs.Sound.{pointsOf}
 use Rattle.sound.proofs.Soundness.{sound-of}
 use Rattle.tables.proofs.Equal.{equal-exactly}

@@ -24,7 +24,7 @@ use Rattle.lines.specs.Held.{noJob}
 use Rattle.lines.proofs.JobLaws.{unsent-at}
 use Rattle.rulebook.specs.Reading.{Reading, good, readingOf}
 use Rattle.rulebook.specs.Book.{plan, send, clock, Plans, Reads, Step}
-use Rattle.sound.specs.declared.Board.{Board}
+use Rattle.boardwords.specs.declared.Board.{Board}
 use Rattle.sound.specs.Sound.{Sound}
 use Rattle.sound.proofs.Soundness.{sound-of}
 use Rattle.settling.specs.Settled.{addedAll}

@@ -18,7 +18,7 @@ use Rattle.stn.specs.Table.{Agree}
 use Rattle.gaps.specs.Cells.{cell, tableOf}
 use Rattle.gaps.proofs.Overlaid.{at-place}
 use Rattle.rulebook.specs.Book.{Book, Call, Runs}
-use Rattle.sound.specs.declared.Board.{Board}
+use Rattle.boardwords.specs.declared.Board.{Board}
 use Rattle.sound.specs.Sound.{Sound}
 use Rattle.board.specs.declared.Settings.{Settings}
 use Rattle.board.specs.Boards.{badSettings}

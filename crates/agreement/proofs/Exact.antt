@@ -21,7 +21,7 @@ use Rattle.plain.proofs.Rules.{KeepsAll}
 use Rattle.stn.specs.Table.{soonest}
 use Rattle.gaps.specs.Cells.{tableOf}
 use Rattle.rulebook.specs.Book.{Book, Possible, SomePossible, Least, Gap, made, Refuses, Guarded, Settles}
-use Rattle.sound.specs.declared.Board.{Board}
+use Rattle.boardwords.specs.declared.Board.{Board}
 use Rattle.sound.specs.Sound.{Sound}
 use Rattle.board.specs.declared.Ruled.{Ruled}
 use Rattle.board.specs.Boards.{stateOf}

@@ -36,7 +36,7 @@ use Rattle.plain.specs.Plain.{
   drafted,
 }
 use Rattle.lines.proofs.DraftLaws.{within}
-use Rattle.sound.specs.declared.Board.{Board}
+use Rattle.boardwords.specs.declared.Board.{Board}
 use Rattle.board.specs.Boards.{stateOf}
 use Rattle.board.specs.Calls.{settled, decided}
 

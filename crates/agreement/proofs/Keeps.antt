@@ -26,7 +26,7 @@ use Rattle.gaps.proofs.Grown.{grown-length, grown-agree}
 use Rattle.gaps.proofs.GapTable.{grown-gapTable}
 use Rattle.rulebook.specs.Reading.{onRuling, offerOf, readingOf}
 use Rattle.rulebook.specs.Book.{Book, plan, send, clock}
-use Rattle.sound.specs.declared.Board.{Board}
+use Rattle.boardwords.specs.declared.Board.{Board}
 use Rattle.sound.specs.Sound.{Sound}
 use Rattle.sound.proofs.Soundness.{sound-of}
 use Rattle.settling.specs.Settled.{addedAll, addedEach}

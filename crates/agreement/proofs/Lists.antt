@@ -21,7 +21,7 @@ use Rattle.gaps.specs.Cells.{cell, tableOf}
 use Rattle.lists.specs.All.{All}
 use Rattle.lists.proofs.All.{all-map}
 use Rattle.rulebook.specs.Book.{Book, Call, plan, send, clock, retire, fresh, emptyLines, Runs}
-use Rattle.sound.specs.declared.Board.{Board}
+use Rattle.boardwords.specs.declared.Board.{Board}
 use Rattle.sound.specs.Sound.{Sound}
 use Rattle.board.specs.declared.Settings.{Settings}
 use Rattle.board.specs.declared.Ruled.{Ruled}

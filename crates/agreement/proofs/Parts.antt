@@ -23,7 +23,7 @@ use Rattle.lines.proofs.JobLaws.{jobs-back}
 use Rattle.lines.proofs.LineLaws.{line-back}
 use Rattle.gaps.specs.Cells.{tableOf}
 use Rattle.gaps.specs.GapTable.{GapTable}
-use Rattle.sound.specs.declared.Board.{Board}
+use Rattle.boardwords.specs.declared.Board.{Board}
 use Rattle.lists.specs.All.{All}
 use Rattle.sound.specs.Sound.{SizedJob, SizedUse, StillSent, Sound}
 use Rattle.sound.specs.Sound as Sounds

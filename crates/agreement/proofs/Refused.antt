@@ -15,7 +15,7 @@ use Rattle.stn.specs.Table.{implied}
 use Rattle.gaps.specs.Cells.{tableOf, dropped}
 use Rattle.rulebook.specs.Reading.{Reading, bad, good, readingOf}
 use Rattle.rulebook.specs.Book.{Call, plan, send, clock, retire}
-use Rattle.sound.specs.declared.Board.{Board}
+use Rattle.boardwords.specs.declared.Board.{Board}
 use Rattle.sound.specs.Sound.{sound}
 use Rattle.settling.specs.Settled.{addedEach}
 use Rattle.board.specs.declared.Ruled.{Ruled}

@@ -19,7 +19,7 @@ use Rattle.plain.specs.Plain.{liveCount}
 use Rattle.rulebook.specs.Book.{Greatest}
 use Rattle.stn.specs.Table.{latest}
 use Rattle.gaps.specs.Cells.{tableOf}
-use Rattle.sound.specs.declared.Board.{Board}
+use Rattle.boardwords.specs.declared.Board.{Board}
 use Rattle.sound.specs.Sound.{Sound, sound}
 use Rattle.sound.proofs.Soundness.{sound-to, sound-of}
 use Rattle.board.specs.Boards.{stateOf}

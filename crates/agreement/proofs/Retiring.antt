@@ -23,7 +23,7 @@ use Rattle.gaps.specs.GapTable.{GapTable}
 use Rattle.gaps.proofs.Dropped.{dropped-length, dropped-agree, dropped-gapTable}
 use Rattle.rulebook.specs.Book.{Book, retire}
 use Rattle.lists.specs.All.{All}
-use Rattle.sound.specs.declared.Board.{Board}
+use Rattle.boardwords.specs.declared.Board.{Board}
 use Rattle.sound.specs.Sound.{SizedUse, Sound}
 use Rattle.sound.proofs.Soundness.{sound-of}
 use Rattle.board.specs.Boards.{stateOf}

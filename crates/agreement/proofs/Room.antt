@@ -20,7 +20,7 @@ use Rattle.stn.proofs.Agree.{agree-fits}
 use Rattle.stn.proofs.Pick.{pick-fits, old-low, old-lt, spread, spread-old, spread-origin, spread-fits}
 use Rattle.gaps.specs.Cells.{tableOf}
 use Rattle.rulebook.specs.Book.{retire}
-use Rattle.sound.specs.declared.Board.{Board}
+use Rattle.boardwords.specs.declared.Board.{Board}
 use Rattle.sound.specs.Sound.{Sound}
 use Rattle.board.specs.Boards.{stateOf}
 use Rattle.board.specs.Calls.{refusal, left, retired}

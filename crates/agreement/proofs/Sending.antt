@@ -16,7 +16,7 @@ use Rattle.plain.proofs.Rules.{Keeps, KeepsAll, keeps-to, keeps-of}
 use Rattle.stn.specs.Table.{soonest}
 use Rattle.gaps.specs.Cells.{tableOf}
 use Rattle.rulebook.specs.Book.{Possible, Least, AllLeast, made, Sends}
-use Rattle.sound.specs.declared.Board.{Board}
+use Rattle.boardwords.specs.declared.Board.{Board}
 use Rattle.sound.specs.Sound.{Sound}
 use Rattle.board.specs.declared.Ruled.{Ruled}
 use Rattle.demands.specs.Beside.{Sim}

@@ -29,7 +29,7 @@ use Rattle.stn.specs.Table.{implied}
 use Rattle.gaps.specs.Cells.{tableOf}
 use Rattle.rulebook.specs.Reading.{onRuling, offerOf, readingOf}
 use Rattle.rulebook.specs.Book.{Call, plan, send, clock, retire}
-use Rattle.sound.specs.declared.Board.{Board}
+use Rattle.boardwords.specs.declared.Board.{Board}
 use Rattle.sound.specs.Sound.{Sound}
 use Rattle.sound.proofs.Soundness.{sound-of}
 use Rattle.board.specs.declared.Ruled.{Ruled}

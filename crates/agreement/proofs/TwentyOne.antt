@@ -25,7 +25,7 @@ use Rattle.plain.proofs.Rules.{keeps-to}
 use Rattle.stn.specs.Table.{bias, Table, Closed, Within, far, implied}
 use Rattle.stn.proofs.Fits.{implied-yes, far-fits, far-origin}
 use Rattle.gaps.specs.Cells.{tableOf}
-use Rattle.sound.specs.declared.Board.{Board}
+use Rattle.boardwords.specs.declared.Board.{Board}
 use Rattle.sound.specs.Sound.{Sound}
 use Rattle.board.specs.declared.Ruled.{Ruled}
 use Rattle.board.specs.Boards.{stateOf}

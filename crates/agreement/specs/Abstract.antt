@@ -17,7 +17,7 @@ use Rattle.plain.specs.Plain.{liveCount}
 use Rattle.plain.specs.Rules.{RuleOn}
 use Rattle.stn.specs.Table.{bias}
 use Rattle.gaps.specs.Cells.{cell, tableOf}
-use Rattle.sound.specs.declared.Board.{Board}
+use Rattle.boardwords.specs.declared.Board.{Board}
 use Rattle.board.specs.declared.Ruled.{Ruled}
 use Rattle.board.specs.Boards.{stateOf}
 use Rattle.board.specs.Calls.{planned, sent, clocked, retired}

@@ -12,7 +12,7 @@ use Rattle.rulings.specs.declared.Ruling.{Ruling}
 use mathlib.Core.Bool.{false}
 use Rattle.gaps.specs.Cells.{cell}
 use Rattle.rulebook.specs.Book.{Book, Call, fresh, Runs}
-use Rattle.sound.specs.declared.Board.{Board}
+use Rattle.boardwords.specs.declared.Board.{Board}
 use Rattle.board.specs.declared.Settings.{Settings}
 use Rattle.board.specs.Boards.{badSettings}
 use Rattle.demands.specs.Cases.{SameTimetables}

@@ -22,7 +22,7 @@ use Rattle.plain.specs.Plain.{endOf, staying}
 use Rattle.plain.specs.Rules.{Times}
 use Rattle.stn.specs.Table.{oldNumber}
 use Rattle.gaps.specs.Cells.{cell}
-use Rattle.sound.specs.declared.Board.{Board}
+use Rattle.boardwords.specs.declared.Board.{Board}
 use Rattle.board.specs.declared.Ruled.{Ruled}
 use Rattle.board.specs.Boards.{stateOf}
 use Rattle.board.specs.Calls.{refusal}

@@ -13,7 +13,7 @@ use Rattle.plain.specs.Plain.{liveCount}
 use Rattle.plain.specs.Rules.{Times}
 use Rattle.lists.specs.All.{All}
 use Rattle.rulebook.specs.Book.{Book, Call, plan, send, clock, retire, fresh, Runs, Possible, SomePossible}
-use Rattle.sound.specs.declared.Board.{Board}
+use Rattle.boardwords.specs.declared.Board.{Board}
 use Rattle.sound.specs.Sound.{Sound}
 use Rattle.board.specs.declared.Settings.{Settings}
 use Rattle.board.specs.declared.Ruled.{Ruled}

@@ -22,7 +22,7 @@ use Rattle.plain.specs.Rules.{Times}
 use Rattle.lines.specs.Held.{noJob}
 use Rattle.stn.specs.Table.{bias, Fits, earliest, soonest}
 use Rattle.gaps.specs.Cells.{cell, tableOf}
-use Rattle.sound.specs.declared.Board.{Board}
+use Rattle.boardwords.specs.declared.Board.{Board}
 use Rattle.board.specs.declared.Ruled.{Ruled}
 use Rattle.board.specs.Boards.{stateOf}
 use Rattle.board.specs.Calls.{refusal}

@@ -2,15 +2,16 @@
 --   starts-usable    the clock's rules name live points, and their numbers keep sums within 32 bits
 --   rules-are, rules-few, rules-usable   the rules that the code collects, on a sound board with a clock in range
 --   unsound, back, past, none-left, moved   the answer, case by case
+--   start-fits, start-words, clocked-words   the same of jobs read from words, and the words after the call
 use Prim.Native.Nat.{ℕ, zero, suc, _+_, _≤_, _<_}
 use native.Mathlib.Omega.{arith}
 use mathlib.Core.Path.{_≡_, refl, sym, ap, ap₂, subst, _∙_}
 use mathlib.Core.Bool.{Bool, true, false, cond}
 use mathlib.Core.List.{List, [], _∷_, _++_}
-use lib.ListN.{length, getD, length-take}
-use lib.Dec.{ltb}
-use borrow.Author.Tests.{le-leb, lt-leb, ltb-true, ltb-false}
-use Rattle.rulings.specs.declared.Ruling.the-variants.{Accepted}
+use lib.ListN.{length, length-take}
+use borrow.Author.Tests.{le-leb, lt-leb}
+use Rattle.rulings.specs.declared.Ruling.the-variants.{Accepted, Refused}
+use Rattle.rulings.specs.Answer.{plain}
 use Rattle.plain.specs.declared.Job.{Job}
 use Rattle.lines.specs.declared.Jobs.{Jobs}
 use Rattle.lines.specs.declared.Line.{Line}
@@ -18,19 +19,20 @@ use Rattle.plain.specs.declared.Rule.{Rule}
 use Rattle.lines.specs.declared.rulelist.Rules.{Rules}
 use Rattle.plain.specs.Plain
 use Rattle.plain.specs.Plain.{total, notBefore, starts}
-use Rattle.lines.specs.Held.{jobsOf, jobsFrom, linesOf, linesFrom, rulesOf, rulesFrom, noRule, noLine}
-use Rattle.lines.specs.Asked.{Sized}
-use Rattle.lines.proofs.Padded.{take-padded}
-use Rattle.stn.specs.Table.{Closed}
-use Rattle.gaps.specs.Cells.{tableOf, Usable}
-use Rattle.gaps.proofs.GapTable.{gapTable-closed}
-use Rattle.sound.specs.declared.Board.{Board}
+use Rattle.lines.specs.Held.{jobsOf, jobsFrom, linesOf, linesFrom, rulesOf, rulesFrom}
+use Rattle.gaps.specs.Cells.{Usable}
+use Rattle.boardwords.specs.declared.Board.{Board}
 use Rattle.board.proofs.OnSound.{rules-back}
 use Rattle.board.specs.Boards.{stateOf}
 use Rattle.lists.specs.All.{All}
 use Rattle.sound.specs.Sound.{SizedJob, Sound, sound}
 use Rattle.settling.specs.Settled.{AllUsable, addedAll, outcome}
+use Rattle.boardwords.specs.Words.{wordIn, heldJobs, boardIn, linesFrom as readFrom}
+use Rattle.boardwords.specs.Codec.{linesWords, put}
+use Rattle.boardwords.proofs.Lent.{lentTable, wordsWith, cells-lent, unwritten}
 use Rattle.board.specs.Calls.{refusal, settled, clocked}
+use Rattle.board.specs.InWords.{wordsAfter, fronted}
+use Rattle.board.proofs.InWords.{is-sound, horizon-is, lines-kept, assembled, answered, unanswered}
 
 -- ---- the rules
 
@@ -125,3 +127,60 @@ module _ (b : Board) (c : ℕ) where
         moved jobs lines t ej el =
             ap₂ (λ (x : Jobs) (y : List Line). record { ruling = Accepted; board = record { horizon = b .horizon; lead = b .lead; clock = c; jobs = x; lines = y; gaps = cells } }) ej el
             ∙ subst (λ (x : Bool). settled b 20 (Plain.clockState (stateOf b) c) (outcome x cells) ≡ clocked b c) t tried
+
+-- ---- in words
+
+module _
+    (w : List ℕ) (len : length w ≡ 5829) (e : sound (boardIn w) ≡ true) (jobs : Jobs) (ej : jobs ≡ heldJobs (wordIn w)) (c : ℕ)
+    (later : wordIn w 2 ≤ c) (within : c ≤ wordIn w 0)
+  where
+    by-horizon : c ≤ boardIn w .horizon
+    by-horizon = omega (arith, horizon-is w e)
+
+    pub start-fits : c + wordIn w 1 ≤ 101000000
+    start-fits = let s = is-sound w e in omega (arith, by-horizon, s .horizon .1, s .lead)
+
+    -- of jobs `old` in place of those read: the rules, the words after a clock that leaves no timetable, and those after one that does
+    abbrev pub StartWords : Jobs → Type 0
+    StartWords old =
+        (rules : Rules) → rules ≡ rulesFrom (starts (c + wordIn w 1) 1 (jobsOf old))
+        → (rules .count ≤ 82) × ((n : ℕ) → n ≡ suc (total (jobsOf old)) → AllUsable n (rulesOf rules))
+
+    abbrev pub ClockedWords : Jobs → Type 0
+    ClockedWords old =
+        (rules : Rules) (n : ℕ) (ok : Bool) (t : List ℕ) → rules ≡ rulesFrom (starts (c + wordIn w 1) 1 (jobsOf old)) → n ≡ suc (total (jobsOf old))
+        → outcome ok t ≡ addedAll (rulesOf rules) n (lentTable w)
+        → (ok ≡ false → t ≡ lentTable w → (Refused (plain 20) ≡ clocked (boardIn w) c .ruling) × (wordsWith w t ≡ wordsAfter w (clocked (boardIn w) c)))
+        × ((new : Jobs) (x z : List ℕ) → ok ≡ true → new ≡ jobsFrom (jobsOf old) → length (wordsWith w t) ≡ 5829 → x ≡ fronted (wordsWith w t) c new
+        → z ≡ put x 52 (linesWords (linesFrom (linesOf (readFrom (wordIn x)))))
+        → (Accepted ≡ clocked (boardIn w) c .ruling) × (z ≡ wordsAfter w (clocked (boardIn w) c)))
+
+    starts-read : StartWords (boardIn w .jobs)
+    starts-read rules er =
+        let b = boardIn w in
+        (rules-few b (is-sound w e) c by-horizon rules er, λ n en. subst (λ (m : ℕ). AllUsable m (rulesOf rules)) (sym en) (rules-usable b (is-sound w e) c by-horizon rules er))
+
+    clocked-read : ClockedWords (boardIn w .jobs)
+    clocked-read rules n ok t er en eo = (
+      (λ no same. let r = unanswered w (clocked b c) b (plain 20) (none-left b c e later by-horizon (rulesOf rules) n ok t are en tried no) in
+          (r .0, unwritten w len t same ∙ r .1)),
+      (λ new x z yes enew size ex ez.
+          answered w z (clocked b c) _ (moved b c e later by-horizon (rulesOf rules) n ok t are en tried new (linesFrom (linesOf (b .lines))) yes enew refl)
+          (assembled w e len t c new x ex size (linesFrom (linesOf (b .lines))) z
+          (ez ∙ ap (λ (ls : List Line). put x 52 (linesWords (linesFrom (linesOf ls)))) (lines-kept w e len t c new x ex)))),
+    )
+      where
+        b : Board
+        b = boardIn w
+
+        are : rulesOf rules ≡ starts (c + wordIn w 1) 1 (jobsOf (boardIn w .jobs))
+        are = rules-are (boardIn w) (is-sound w e) c by-horizon rules er
+
+        tried : outcome ok t ≡ addedAll (rulesOf rules) n (boardIn w .gaps)
+        tried = eo ∙ ap (addedAll (rulesOf rules) n) (cells-lent w len)
+
+    pub start-words : StartWords jobs
+    start-words = subst StartWords (sym ej) starts-read
+
+    pub clocked-words : ClockedWords jobs
+    clocked-words = subst ClockedWords (sym ej) clocked-read

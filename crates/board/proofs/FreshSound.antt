@@ -3,10 +3,10 @@
 --   fresh-origin, fresh-elsewhere, fresh-live   the cells of a fresh table: a gap of 0 at the origin, 0 everywhere else
 --   fresh-table      it is a good table of one point;  fresh-sound: the fresh board is sound
 use Prim.Native.Nat.{ℕ, zero, suc, _+_, _*_, _≤_, _<_}
-use mathlib.Core.Path.{_≡_, refl, sym, _∙_, ap}
+use mathlib.Core.Path.{_≡_, refl, _∙_, ap}
 use mathlib.Core.Logic.{_⊎_, inl, inr}
-use mathlib.Core.Bool.{true, false, _||_}
-use mathlib.Core.List.{List, [], _∷_}
+use mathlib.Core.Bool.{false, _||_}
+use mathlib.Core.List.{[], _∷_}
 use native.Mathlib.Omega.{arith}
 use lib.ListN.{getD, set, replicate}
 use lib.Dec.{ltb}

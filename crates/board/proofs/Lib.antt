@@ -7,3 +7,5 @@ pub mod Placed
 pub mod Drafts
 pub mod Planned
 pub mod Retired
+pub mod InWords
+pub mod PlanWords

@@ -24,7 +24,7 @@ use Rattle.lines.proofs.Padded.{take-padded}
 use Rattle.stn.specs.Table.{Closed}
 use Rattle.gaps.specs.Cells.{tableOf}
 use Rattle.gaps.proofs.GapTable.{gapTable-closed}
-use Rattle.sound.specs.declared.Board.{Board}
+use Rattle.boardwords.specs.declared.Board.{Board}
 use Rattle.sound.specs.Sound.{pointsOf, SizedUse, Sound}
 use Rattle.lists.specs.All.{All}
 use Rattle.lists.proofs.All.{all-at, all-from, all-map}

@@ -1,5 +1,5 @@
 -- Laws of plan's call. Assumes nothing.
---   Going b o r       what the code holds of a draft that goes on: the state to be, its points and rules;  going shows it
+--   Going b o r ls    what the code holds of a draft that goes on: the state to be, its points and rules;  going shows it
 --   asked             what trying the rules asks
 --   stopped, none-left, joined   the answer to an offer that was read, case by case
 --   held-offer, held-read        the offer as the code holds it
@@ -7,38 +7,37 @@
 --   bad-format, bad-chain, chain-good   what reading the offer comes to
 use Prim.Native.Nat.{ℕ, suc, _+_, _≤_, _<_}
 use native.Mathlib.Omega.{arith}
-use mathlib.Core.Path.{_≡_, refl, sym, ap, ap₂, subst, _∙_}
+use mathlib.Core.Path.{_≡_, refl, sym, ap, subst, _∙_}
 use mathlib.Core.Bool.{Bool, true, false}
 use mathlib.Core.List.{List}
-use lib.ListN.{length, getD}
+use lib.ListN.{length}
 use Rattle.rulings.specs.declared.Cause.{Cause}
 use Rattle.rulings.specs.declared.Ruling.{Ruling}
 use Rattle.rulings.specs.declared.Ruling.the-variants.{Accepted, Refused}
 use Rattle.rulings.proofs.Laws.{refused-no}
 use Rattle.plant.specs.Plant.{plantRuling}
-use Rattle.offer.specs.Offer.{batchOf, offerRuling, chainRuling, factCheck}
-use Rattle.plain.specs.declared.Put.{Put}
+use Rattle.offer.specs.Offer.{offerRuling, chainRuling, factCheck}
 use Rattle.plain.specs.declared.Rule.{Rule}
-use Rattle.plain.specs.declared.Step.{Step}
 use Rattle.plain.specs.Plain.{Offer, State, Draft, liveCount, drafted}
 use Rattle.lines.specs.declared.Jobs.{Jobs}
 use Rattle.lines.specs.declared.Line.{Line}
 use Rattle.lines.specs.declared.Puts.{Puts}
 use Rattle.lines.specs.declared.Steps.{Steps}
-use Rattle.lines.specs.declared.drafting.Drafted.{Drafted}
-use Rattle.lines.specs.Held.{jobsFrom, linesFrom, rulesOf, rulesFrom, noPut, noStep, putsOf, stepsOf, draftOf}
+use Rattle.lines.specs.Held.{jobsFrom, linesFrom, rulesOf, rulesFrom, noPut, noStep, stepsOf}
 use Rattle.lines.specs.Held as Held
-use Rattle.lines.specs.Asked.{Readable, Read}
+use Rattle.lines.specs.Asked.{Read}
 use Rattle.lines.proofs.Padded.{take-padded, padded-at}
 use Rattle.lists.proofs.All.{all-at}
 use Rattle.stn.specs.Table.{bias, Closed}
 use Rattle.gaps.specs.Cells.{tableOf, grown}
-use Rattle.rulebook.specs.Reading.{Reading, bad, good, offerOf, onRuling, readingOf}
+use Rattle.rulebook.specs.Reading.{offerOf, onRuling, readingOf}
 use Rattle.offered.specs.Held.{stepsHeld, putsHeld}
 use Rattle.offered.specs.Sized.{SizedPut, SizedOffer}
 use Rattle.settling.specs.Settled.{AllUsable, addedAll, outcome}
-use Rattle.sound.specs.declared.Board.{Board}
+use Rattle.boardwords.specs.declared.Board.{Board}
 use Rattle.sound.specs.Sound.{Sound, sound}
+use Rattle.drafts.specs.declared.drafting.Drafted.{Drafted}
+use Rattle.drafts.specs.DraftedAs.{DraftedAs}
 use Rattle.board.specs.Boards.{stateOf, boardOf}
 use Rattle.board.specs.Calls.{refused, refusal, settled, after, decided, heard, planned}
 use Rattle.board.proofs.Drafts.{Joins, DraftJoins, drafted-joins}
@@ -46,47 +45,38 @@ use Rattle.board.proofs.OnSound.{rules-back, closed, fitting}
 
 -- ---- an offer that was read
 
-pub record Going (b : Board) (o : Offer) (r : Drafted) : Type 0 where
+pub record Going (b : Board) (o : Offer) (r : Drafted) (lines : List Line) : Type 0 where
   pub next : State
   pub m : ℕ
   pub rs : List Rule
   pub is : drafted (stateOf b) o ≡ Draft.go next m rs
   pub jobs : r .jobs ≡ jobsFrom (next .jobs)
-  pub lines : r .lines ≡ linesFrom (next .lines)
+  pub after : lines ≡ linesFrom (next .lines)
   pub rules : r .rules ≡ rulesFrom rs
   pub joins : Joins (stateOf b) o next m rs
 
-module _ (b : Board) (o : Offer) (r : Drafted) (e : r ≡ draftOf (b .jobs) (b .lines) (drafted (stateOf b) o)) where
+module _ (b : Board) (o : Offer) (r : Drafted) (lines : List Line) (e : DraftedAs r lines (drafted (stateOf b) o)) where
   pub stopped : (c : Cause) → r .ruling ≡ Refused c → refused b c ≡ decided b (drafted (stateOf b) o)
-  unfolding decided draftOf
-  stopped c h = go (drafted (stateOf b) o) (sym h ∙ ap (λ (x : Drafted). x .ruling) e)
+  unfolding decided DraftedAs
+  stopped c h = go (drafted (stateOf b) o) e
     where
-      go : (q : Draft) → Refused c ≡ draftOf (b .jobs) (b .lines) q .ruling → refused b c ≡ decided b q
-      go (Draft.stop d) f = ap (λ (x : Ruling). record { ruling = x; board = b }) f
-      go (Draft.go next m rs) f = absurd (refused-no c f)
+      go : (q : Draft) → DraftedAs r lines q → refused b c ≡ decided b q
+      go (Draft.stop d) f = ap (λ (x : Ruling). record { ruling = x; board = b }) (sym h ∙ f)
+      go (Draft.go next m rs) f = absurd (refused-no c (sym h ∙ f .0))
 
-  pub going : Sound b → length (b .lines) ≡ 16 → SizedOffer o → r .ruling ≡ Accepted → Going b o r
-  unfolding draftOf DraftJoins
+  pub going : Sound b → length (b .lines) ≡ 16 → SizedOffer o → r .ruling ≡ Accepted → Going b o r lines
+  unfolding DraftedAs DraftJoins
   going s size sized h =
       let h1 = s .horizon .1 in
       go (drafted (stateOf b) o) refl e
       (drafted-joins (stateOf b) o (s .sizes) (unfold liveCount in fitting b s size) (omega (arith, h1, s .clock, s .lead)) sized)
     where
-      go : (q : Draft) → drafted (stateOf b) o ≡ q → r ≡ draftOf (b .jobs) (b .lines) q → DraftJoins (stateOf b) o q → Going b o r
-      go (Draft.stop c) is f j = absurd (refused-no c (sym (ap (λ (x : Drafted). x .ruling) f) ∙ h))
+      go : (q : Draft) → drafted (stateOf b) o ≡ q → DraftedAs r lines q → DraftJoins (stateOf b) o q → Going b o r lines
+      go (Draft.stop c) is f j = absurd (refused-no c (sym f ∙ h))
       go (Draft.go next m rs) is f j =
-          record {
-            next = next;
-            m = m;
-            rs = rs;
-            is = is;
-            jobs = ap (λ (x : Drafted). x .jobs) f;
-            lines = ap (λ (x : Drafted). x .lines) f;
-            rules = ap (λ (x : Drafted). x .rules) f;
-            joins = j;
-          }
+          record { next = next; m = m; rs = rs; is = is; jobs = f .1; after = f .2; rules = f .3; joins = j }
 
-module _ {b : Board} {o : Offer} {r : Drafted} (g : Going b o r) where
+module _ {b : Board} {o : Offer} {r : Drafted} {drawn : List Line} (g : Going b o r drawn) where
   rules-are : rulesOf (r .rules) ≡ g .rs
   rules-are = ap rulesOf (g .rules) ∙ rules-back (g .rs) (g .joins .few)
 
@@ -115,7 +105,7 @@ module _ {b : Board} {o : Offer} {r : Drafted} (g : Going b o r) where
       none-left f = subst (λ (x : Bool). settled b 17 (g .next) (outcome x cells) ≡ decided b (drafted (stateOf b) o)) f tried
 
       pub joined :
-          (jobs : Jobs) (lines : List Line) → ok ≡ true → jobs ≡ r .jobs → lines ≡ r .lines
+          (jobs : Jobs) (lines : List Line) → ok ≡ true → jobs ≡ r .jobs → lines ≡ drawn
           → record {
             ruling = Accepted;
             board = record { horizon = b .horizon; lead = b .lead; clock = b .clock; jobs = jobs; lines = lines; gaps = cells };
@@ -127,9 +117,9 @@ module _ {b : Board} {o : Offer} {r : Drafted} (g : Going b o r) where
           ∙ subst (λ (x : Bool). settled b 17 (g .next) (outcome x cells) ≡ decided b (drafted (stateOf b) o)) t tried
         where
           board-is :
-              (jobs : Jobs) (lines : List Line) → jobs ≡ r .jobs → lines ≡ r .lines
+              (jobs : Jobs) (lines : List Line) → jobs ≡ r .jobs → lines ≡ drawn
               → record { horizon = b .horizon; lead = b .lead; clock = b .clock; jobs = jobs; lines = lines; gaps = cells } ≡ boardOf (g .next) cells
-          board-is jobs lines ej el = rw (ej, el, g .jobs, g .lines, g .joins .clock, g .joins .horizon, g .joins .lead)
+          board-is jobs lines ej el = rw (ej, el, g .jobs, g .after, g .joins .clock, g .joins .horizon, g .joins .lead)
 
 -- ---- the offer as the code holds it
 

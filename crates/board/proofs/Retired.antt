@@ -5,13 +5,15 @@
 --   some, few             it has points, and all of them are live
 --   in-reach              the test that it is over by c, no later than the horizon, reads the table within its bounds
 --   late, retired-is      the answer where it is not over, and where it is
-use mathlib.Core.Path.{_≡_, sym, ap, subst, _∙_}
+--   leaving-words, retired-words, unsent-words   the same of jobs read from words, and the words after the call
+use mathlib.Core.Path.{_≡_, refl, sym, ap, subst, _∙_}
 use mathlib.Core.Bool.{Bool, true, false}
 use mathlib.Core.List.{List, [], _∷_, map}
 use Prim.Native.Nat.{ℕ, suc, _+_, _-_, _≤_}
 use native.Mathlib.Omega.{arith}
 use lib.ListN.{length, getD, take, drop}
-use Rattle.rulings.specs.declared.Ruling.the-variants.{Accepted}
+use Rattle.rulings.specs.declared.Ruling.the-variants.{Accepted, Refused}
+use Rattle.rulings.specs.Answer.{plain}
 use Rattle.plain.specs.declared.Job.{Job}
 use Rattle.plain.specs.Plain
 use Rattle.plain.specs.Plain.{total, notAfter, allEndBy, staying}
@@ -23,11 +25,18 @@ use Rattle.lists.specs.All.{All}
 use Rattle.stn.specs.Table.{implied}
 use Rattle.gaps.specs.Cells.{tableOf, dropped}
 use Rattle.settling.specs.Ending.{InReach}
-use Rattle.sound.specs.declared.Board.{Board}
+use Rattle.boardwords.specs.declared.Board.{Board}
 use Rattle.sound.specs.Sound.{SizedJob, Sound, sound}
 use Rattle.board.specs.Boards.{stateOf}
+use Rattle.lines.specs.Asked.{Lined}
+use Rattle.boardwords.specs.Words.{wordIn, heldJobs, jobAt, cellAt, cellsFrom, boardIn, linesFrom as readFrom}
+use Rattle.boardwords.specs.Codec.{linesWords, put}
+use Rattle.boardwords.proofs.Listed.{length-listed}
+use Rattle.boardwords.proofs.Lent.{lentTable, wordsWith, cells-lent}
 use Rattle.board.specs.Calls.{refusal, left, retired}
-use Rattle.board.proofs.OnSound.{closed}
+use Rattle.board.specs.InWords.{wordsAfter, fronted}
+use Rattle.board.proofs.OnSound.{closed, lined}
+use Rattle.board.proofs.InWords.{lines-many, is-sound, lines-kept, assembled, answered, unanswered}
 
 module _ (b : Board) where
   pub unsound : sound b ≡ false → refusal b 6 ≡ retired b
@@ -113,3 +122,68 @@ module _ (b : Board) where
             }
             ≡ left b (Plain.leavingFrom (stateOf b) (j ∷ js)) = rw (was-sent, ← test, t, ej, el, kept) in
             goes ∙ by-jobs e (j ∷ js) q
+
+-- ---- in words
+
+module _
+    (w : List ℕ) (len : length w ≡ 5829) (e : sound (boardIn w) ≡ true) (jobs : Jobs) (ej : jobs ≡ heldJobs (wordIn w)) (there : 1 ≤ jobs .count)
+  where
+    -- of jobs `old` in place of those read: what the test and the dropping of the oldest job's points ask
+    abbrev pub Leaving : Jobs → Type 0
+    Leaving old =
+        let m = getD (old .jobs) 0 noJob .points in
+        InReach (cellsFrom (wordIn w)) (wordIn w 2) 1 m × (1 ≤ m) × Lined (readFrom (wordIn w)) × (1 + m ≤ suc (total (jobsOf old)))
+
+    -- the words after the call, where the oldest job is not over, and where it is
+    abbrev pub RetiredWords : Jobs → Type 0
+    RetiredWords old =
+        let m = getD (old .jobs) 0 noJob .points in
+        (ok : Bool) → getD (old .jobs) 0 noJob .sent ≡ true
+        → ok ≡ implied (tableOf (cellsFrom (wordIn w))) (notAfter (1 + m - 1) (wordIn w 2) ∷ allEndBy (wordIn w 2) 1 m (linesOf (readFrom (wordIn w))))
+        → (ok ≡ false → (Refused (plain 21) ≡ retired (boardIn w) .ruling) × (w ≡ wordsAfter w (retired (boardIn w))))
+        × ((new : Jobs) (n : ℕ) (t x z : List ℕ) → ok ≡ true → new ≡ jobsFrom (drop 1 (jobsOf old)) → n ≡ suc (total (jobsOf old))
+        → t ≡ dropped (lentTable w) 1 m n → length (wordsWith w t) ≡ 5829 → x ≡ fronted (wordsWith w t) (wordIn w 2) new
+        → z ≡ put x 52 (linesWords (linesFrom (map (staying 1 m) (linesOf (readFrom (wordIn x))))))
+        → (Accepted ≡ retired (boardIn w) .ruling) × (z ≡ wordsAfter w (retired (boardIn w))))
+
+    first : jobsOf (boardIn w .jobs) ≡ getD (boardIn w .jobs .jobs) 0 noJob ∷ drop 1 (jobsOf (boardIn w .jobs))
+    first =
+        oldest-first (boardIn w) (subst (λ (j : Jobs). 1 ≤ j .count) ej there)
+        (omega (arith, is-sound w e .jobs, length-listed (jobAt (wordIn w)) 16))
+
+    leaving-read : Leaving (boardIn w .jobs)
+    leaving-read =
+        let s = is-sound w e in (
+          in-reach (boardIn w) _ _ first s (wordIn w 2) (s .clock) (length-listed (cellAt (wordIn w)) 4225),
+          some (boardIn w) _ _ first s,
+          lined (boardIn w) s (lines-many w),
+          few (boardIn w) _ _ first s,
+        )
+
+    retired-read : RetiredWords (boardIn w .jobs)
+    retired-read ok was is = (
+      (λ no. unanswered w (retired b) b (plain 21) (late b _ _ first e was ok is no)),
+      (λ new n t x z yes enew en et size ex ez.
+          let ls = linesFrom (map (staying 1 m) (linesOf (b .lines))) in
+          answered w z (retired b) _ (retired-is b _ _ first e was ok is yes new ls t n enew refl en (et ∙ ap (λ (l : List ℕ). dropped l 1 m n) (cells-lent w len)))
+          (assembled w e len t (wordIn w 2) new x ex size ls z
+          (ez ∙ ap (λ (l : List Line). put x 52 (linesWords (linesFrom (map (staying 1 m) (linesOf l))))) (lines-kept w e len t (wordIn w 2) new x ex)))),
+    )
+      where
+        b : Board
+        b = boardIn w
+
+        m : ℕ
+        m = getD (boardIn w .jobs .jobs) 0 noJob .points
+
+    pub leaving-words : Leaving jobs
+    leaving-words = subst Leaving (sym ej) leaving-read
+
+    pub retired-words : RetiredWords jobs
+    retired-words = subst RetiredWords (sym ej) retired-read
+
+    pub unsent-words :
+        getD (jobs .jobs) 0 noJob .sent ≡ false → (Refused (plain 21) ≡ retired (boardIn w) .ruling) × (w ≡ wordsAfter w (retired (boardIn w)))
+    unsent-words u =
+        unanswered w (retired (boardIn w)) (boardIn w) (plain 21)
+        (unsent (boardIn w) _ _ first e (subst (λ (j : Jobs). getD (j .jobs) 0 noJob .sent ≡ false) ej u))

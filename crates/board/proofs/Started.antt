@@ -11,7 +11,7 @@ use Rattle.lines.specs.declared.Line.{Line}
 use Rattle.lines.specs.Held.{jobsFrom, linesFrom}
 use Rattle.rulebook.specs.Book.{emptyLines, fresh}
 use Rattle.board.specs.declared.Settings.{Settings}
-use Rattle.sound.specs.declared.Board.{Board}
+use Rattle.boardwords.specs.declared.Board.{Board}
 use Rattle.board.specs.Boards.{badSettings, zeroCells, freshCells, zeroBoard, freshBoard, freshRuled}
 
 module _ (j : Jobs) (l : List Line) (ej : j ≡ jobsFrom []) (el : l ≡ linesFrom (emptyLines 16)) where

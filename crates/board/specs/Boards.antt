@@ -17,7 +17,7 @@ use Rattle.lines.specs.Held as Held
 use Rattle.stn.specs.Table.{bias}
 use Rattle.rulebook.specs.Book as Rulebook
 use Rattle.board.specs.declared.Settings.{Settings}
-use Rattle.sound.specs.declared.Board.{Board}
+use Rattle.boardwords.specs.declared.Board.{Board}
 use Rattle.board.specs.declared.Ruled.{Ruled}
 
 abbrev pub stateOf : Board → Plain.State

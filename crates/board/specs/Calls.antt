@@ -2,7 +2,6 @@
 --   refused b c       refused with the cause c, and the very board that came;  refusal b n: with a number alone
 --   accepted s l      accepted: the board of the state s and the cells l
 --   settled b n s o   accepted with the cells o; refused with the number n where there are none
---   ruledWith r l     the answer r of a call whose table was lent, with the cells l that the table holds after it
 --   after r b a       a refusal r comes first, then the answer a
 --   planned b p o     plan, of the plant file p and the offer o: 1 to 4, 6, 7 to 13, 14 to 16, 17, or the board with the job
 --   sent b place      send: 6, 18, or the board with the jobs sent
@@ -24,16 +23,11 @@ use Rattle.plain.specs.Plain
 use Rattle.rulebook.specs.Reading.{Reading, bad, good, readingOf}
 use Rattle.stn.specs.Table.{earliest, implied}
 use Rattle.gaps.specs.Cells.{tableOf, grown, dropped}
-use Rattle.sound.specs.declared.Board.{Board}
-use Rattle.sound.specs.Framed.{whole}
+use Rattle.boardwords.specs.declared.Board.{Board}
 use Rattle.sound.specs.Sound.{sound}
 use Rattle.settling.specs.Settled.{addedAll, addedEach}
-use Rattle.board.specs.declared.Framed.{Framed}
 use Rattle.board.specs.declared.Ruled.{Ruled}
 use Rattle.board.specs.Boards.{stateOf, boardOf}
-
-abbrev pub ruledWith : Framed → List ℕ → Ruled
-ruledWith r l = record { ruling = r .ruling; board = whole (r .frame) l }
 
 -- "a refused call changes nothing"
 abbrev pub refused : Board → Cause → Ruled

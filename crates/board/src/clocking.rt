@@ -1,73 +1,55 @@
 // Moves the clock.
-use crate::Framed;
-use crate::Ruled;
 use crate::parts::live_count;
-use crate::parts::refused;
-use crate::parts::with_table;
+use crate::parts::put_front;
+use boardwords::read_jobs;
+use lines::Jobs;
 use lines::start_rules;
 use lines::tidy_jobs;
-use lines::tidy_lines;
+use linewords::tidy_lines;
 use rulings::Cause;
 use rulings::Ruling;
 use settling::try_rules;
-use sound::Board;
-use sound::Frame;
-use sound::frame_of;
-use sound::is_sound_on;
+use sound::is_sound_in;
 ghost use mathlib.Core.Path.{_≡_};
 ghost use mathlib.Core.Bool.{true};
 ghost use Prim.Native.Nat.{_≤_};
 ghost use lib.ListN.{length};
-ghost use Rattle.sound.specs.Framed.{whole};
-ghost use Rattle.sound.specs.Sound.{Sound, sound};
-ghost use Rattle.board.specs.Calls.{clocked, ruledWith};
+ghost use Rattle.boardwords.specs.Words.{wordIn, heldJobs, boardIn};
+ghost use Rattle.sound.specs.Sound.{sound};
+ghost use Rattle.board.specs.Calls.{clocked};
+ghost use Rattle.board.specs.InWords.{wordsAfter};
 
 // The clock's rules tried on a sound board: 20, or c becomes the clock and p0 of each unsent job is at least c and the lead.
-fn move_clock(f: Frame, t: &mut [u32], c: u32) -> Framed
-    requires { ⌜ length (now t) ≡ 4225 ⌝ }
-    requires { ⌜ (sound (whole f (now t)) ≡ true) × Sound (whole f (now t)) × (f .clock ≤ c) × (c ≤ f .horizon) ⌝ }
-    ensures { λ r. ⌜ ruledWith r (now (t .exit)) ≡ clocked (whole f (now (t .entry))) c ⌝ }
+fn move_clock(w: &mut [u32], jobs: Jobs, c: u32) -> Ruling
+    requires { ⌜ length (now w) ≡ 5829 ⌝ }
+    requires { ⌜ (sound (boardIn (now w)) ≡ true) × (jobs ≡ heldJobs (wordIn (now w))) × (wordIn (now w) 2 ≤ c) × (c ≤ wordIn (now w) 0) ⌝ }
+    ensures ruling { λ r. ⌜ r ≡ clocked (boardIn (now (w .entry))) c .ruling ⌝ }
+    ensures words { λ _. ⌜ now (w .exit) ≡ wordsAfter (now (w .entry)) (clocked (boardIn (now (w .entry))) c) ⌝ }
 {
-    let jobs = f.jobs;
-    let lines = f.lines;
-    if !try_rules(t, live_count(jobs), start_rules(c + f.lead, jobs)) {
-        return refused(f, Cause::Plain(20));
+    let rules = start_rules(c + w[1], jobs);
+    if !try_rules(&mut w[1604..], live_count(jobs), rules) {
+        return Ruling::Refused(Cause::Plain(20));
     }
-    let frame = Frame {
-        horizon: f.horizon,
-        lead: f.lead,
-        clock: c,
-        jobs: tidy_jobs(jobs),
-        lines: tidy_lines(lines),
-    };
-    Framed {
-        ruling: Ruling::Accepted,
-        frame,
-    }
+    put_front(w, c, tidy_jobs(jobs));
+    tidy_lines(w);
+    Ruling::Accepted
 }
 
-// 6, 19 and 20, or the board with its clock moved.
-pub fn clock_on(f: Frame, t: &mut [u32], c: u32) -> Framed
-    requires { ⌜ length (now t) ≡ 4225 ⌝ }
-    ensures { λ r. ⌜ ruledWith r (now (t .exit)) ≡ clocked (whole f (now (t .entry))) c ⌝ }
+// 6, 19 and 20, or the words of the board with its clock moved.
+pub fn clock_in(w: &mut [u32], c: u32) -> Ruling
+    requires { ⌜ length (now w) ≡ 5829 ⌝ }
+    ensures ruling { λ r. ⌜ r ≡ clocked (boardIn (now (w .entry))) c .ruling ⌝ }
+    ensures words { λ _. ⌜ now (w .exit) ≡ wordsAfter (now (w .entry)) (clocked (boardIn (now (w .entry))) c) ⌝ }
 {
-    if !is_sound_on(f, t) {
-        return refused(f, Cause::Plain(6));
+    let jobs = read_jobs(w);
+    if !is_sound_in(w, jobs) {
+        return Ruling::Refused(Cause::Plain(6));
     }
-    if c < f.clock {
-        return refused(f, Cause::Plain(19));
+    if c < w[2] {
+        return Ruling::Refused(Cause::Plain(19));
     }
-    if f.horizon < c {
-        return refused(f, Cause::Plain(19));
+    if w[0] < c {
+        return Ruling::Refused(Cause::Plain(19));
     }
-    move_clock(f, t, c)
-}
-
-// The same on a board by value.
-pub fn clock(b: Board, c: u32) -> Ruled
-    ensures { λ r. ⌜ r ≡ clocked b c ⌝ }
-{
-    let mut gaps = b.gaps;
-    let answer = clock_on(frame_of(b), &mut gaps, c);
-    with_table(answer, gaps)
+    move_clock(w, jobs, c)
 }

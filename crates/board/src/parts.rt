@@ -1,42 +1,15 @@
 // What the calls share.
-use crate::Framed;
-use crate::Ruled;
+use boardwords::put_head;
+use boardwords::put_jobs;
 use lines::Jobs;
 use lines::points;
-use rulings::Cause;
-use rulings::Ruling;
-use sound::Frame;
-use sound::whole;
 ghost use mathlib.Core.Path.{_≡_};
-ghost use mathlib.Core.List.{List};
-ghost use Prim.Native.Nat.{ℕ, suc};
+ghost use Prim.Native.Nat.{suc, _≤_};
+ghost use lib.ListN.{length};
 ghost use Rattle.plain.specs.Plain.{total};
 ghost use Rattle.lines.specs.Held.{jobsOf};
 ghost use Rattle.lines.specs.Asked.{Sized};
-ghost use Rattle.sound.specs.Framed.{whole};
-ghost use Rattle.board.specs.Calls.{refused, ruledWith};
-
-// Refused: the very frame that came. The table is left alone.
-pub fn refused(f: Frame, cause: Cause) -> Framed
-    ensures { λ r. ⌜ ((l : List ℕ) → ruledWith r l ≡ refused (whole f l) cause) ⌝ }
-{
-    Framed {
-        ruling: Ruling::Refused(cause),
-        frame: f,
-    }
-}
-
-// The answer with its table.
-pub fn with_table(r: Framed, gaps: [u32; 4225]) -> Ruled
-    ensures { λ z. ⌜ z ≡ ruledWith r gaps ⌝ }
-{
-    let ruling = r.ruling;
-    let frame = r.frame;
-    Ruled {
-        ruling,
-        board: whole(frame, gaps),
-    }
-}
+ghost use Rattle.board.specs.InWords.{fronted};
 
 // How many points are live, with the origin.
 pub fn live_count(jobs: Jobs) -> usize
@@ -44,4 +17,15 @@ pub fn live_count(jobs: Jobs) -> usize
     ensures { λ r. ⌜ r ≡ suc (total (jobsOf jobs)) ⌝ }
 {
     points(jobs) as usize + 1
+}
+
+// Another clock and other jobs written over those of a board; horizon and lead stay.
+pub fn put_front(w: &mut [u32], clock: u32, jobs: Jobs)
+    requires { ⌜ 1604 ≤ length (now w) ⌝ }
+    ensures { λ _. ⌜ now (w .exit) ≡ fronted (now (w .entry)) clock jobs ⌝ }
+{
+    let horizon = w[0];
+    let lead = w[1];
+    put_head(w, horizon, lead, clock, jobs.count);
+    put_jobs(w, jobs);
 }

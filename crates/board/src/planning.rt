@@ -1,12 +1,15 @@
-// Plans a job: the offer is read, its job put behind the others, and its rules tried on the table.
-use crate::Framed;
-use crate::Ruled;
+// Plans a job: the offer is read, its job put behind the others, and its rules tried on the table. The lines are drafted in a copy, which is
+// copied back where all went well.
 use crate::parts::live_count;
-use crate::parts::refused;
-use crate::parts::with_table;
+use crate::parts::put_front;
+use boardwords::read_jobs;
+use drafts::Drafted;
+use drafts::draft;
+use lines::Jobs;
 use lines::Puts;
 use lines::Steps;
-use lines::draft;
+use linewords::copy_lines;
+use linewords::tidy_lines;
 use offer::check_chain;
 use offer::read_offer;
 use offered::read_durations;
@@ -17,102 +20,108 @@ use plant::read_trailer;
 use rulings::Cause;
 use rulings::Ruling;
 use settling::try_grown;
-use sound::Board;
-use sound::Frame;
-use sound::frame_of;
-use sound::is_sound_on;
+use sound::is_sound_in;
 use words::u32_at;
 ghost use mathlib.Core.Path.{_≡_};
+ghost use mathlib.Core.Bool.{true};
 ghost use Prim.Native.Nat.{_≤_};
 ghost use lib.ListN.{length};
 ghost use Rattle.rulings.specs.declared.Ruling.the-variants.{Accepted};
 ghost use Rattle.plant.specs.Plant.{plantRuling, trailerOf};
 ghost use Rattle.plain.specs.Plain.{drafted};
 ghost use Rattle.lines.specs.Held.{stepsOf, offerOf as heldOffer};
-ghost use Rattle.lines.specs.Asked.{Read};
+ghost use Rattle.lines.specs.Asked.{Ready, Read};
 ghost use Rattle.rulebook.specs.Reading.{readingOf};
 ghost use Rattle.offered.specs.Sized.{SizedOffer};
-ghost use Rattle.sound.specs.Framed.{whole};
-ghost use Rattle.sound.specs.Sound.{Sound};
+ghost use Rattle.boardwords.specs.Words.{wordIn, heldJobs, linesFrom, boardIn};
+ghost use Rattle.sound.specs.Sound.{sound};
+ghost use Rattle.drafts.specs.DraftedAs.{DraftedAs};
 ghost use Rattle.board.specs.Boards.{stateOf};
-ghost use Rattle.board.specs.Calls.{decided, heard, planned, ruledWith};
+ghost use Rattle.board.specs.Calls.{decided, heard, planned};
+ghost use Rattle.board.specs.InWords.{wordsAfter};
 
-// An offer that was read, on a sound board: 14 to 17, or the board with its job.
-fn plan_job(f: Frame, t: &mut [u32], batch: u32, steps: Steps, puts: Puts) -> Framed
-    requires { ⌜ length (now t) ≡ 4225 ⌝ }
-    requires { ⌜ Sound (whole f (now t)) × (steps .count ≡ length (stepsOf steps)) × (steps .count ≤ 8) × Read puts × SizedOffer (heldOffer batch steps puts) × (length (f .lines) ≡ 16) ⌝ }
-    ensures { λ r. ⌜ ruledWith r (now (t .exit)) ≡ decided (whole f (now (t .entry))) (drafted (stateOf (whole f (now (t .entry)))) (heldOffer batch steps puts)) ⌝ }
+// The draft of an offer that was read, on a sound board: its lines are those of `next`.
+fn draft_on(
+    w: &[u32],
+    next: &mut [u32],
+    jobs: Jobs,
+    batch: u32,
+    steps: Steps,
+    puts: Puts,
+) -> Drafted
+    requires { ⌜ (length (now w) ≡ 5829) × (length (now next) ≡ 1604) ⌝ }
+    requires { ⌜ (sound (boardIn (now w)) ≡ true) × (jobs ≡ heldJobs (wordIn (now w))) × (steps .count ≤ 8) × Read puts ⌝ }
+    ensures drafted { λ r. ⌜ DraftedAs r (linesFrom (wordIn (now (next .exit)))) (drafted (stateOf (boardIn (now (w .entry)))) (heldOffer batch steps puts)) ⌝ }
+    ensures ready { λ _. ⌜ Ready (linesFrom (wordIn (now (next .exit)))) ⌝ }
 {
-    let jobs = f.jobs;
-    let lines = f.lines;
-    let drafted = draft(jobs, lines, f.clock, f.lead, batch, steps, puts);
+    copy_lines(next, w);
+    tidy_lines(next);
+    draft(next, jobs, w[2], w[1], batch, steps, puts)
+}
+
+// An offer that was read, on a sound board: 14 to 17, or the words of the board with its job.
+fn plan_job(w: &mut [u32], jobs: Jobs, batch: u32, steps: Steps, puts: Puts) -> Ruling
+    requires { ⌜ length (now w) ≡ 5829 ⌝ }
+    requires { ⌜ (sound (boardIn (now w)) ≡ true) × (jobs ≡ heldJobs (wordIn (now w))) × (steps .count ≡ length (stepsOf steps)) × (steps .count ≤ 8) × Read puts × SizedOffer (heldOffer batch steps puts) ⌝ }
+    ensures ruling { λ r. ⌜ r ≡ decided (boardIn (now (w .entry))) (drafted (stateOf (boardIn (now (w .entry)))) (heldOffer batch steps puts)) .ruling ⌝ }
+    ensures words { λ _. ⌜ now (w .exit) ≡ wordsAfter (now (w .entry)) (decided (boardIn (now (w .entry))) (drafted (stateOf (boardIn (now (w .entry)))) (heldOffer batch steps puts))) ⌝ }
+{
+    let horizon = w[0];
+    let clock = w[2];
+    let mut next = [0u32; 1604];
+    let drafted = draft_on(w, &mut next, jobs, batch, steps, puts);
     let ruling = drafted.ruling;
     if let Ruling::Refused(cause) = ruling {
-        return refused(f, cause);
+        return Ruling::Refused(cause);
     }
     if !try_grown(
-        t,
+        &mut w[1604..],
         live_count(jobs),
         steps.count + 1,
-        f.horizon,
+        horizon,
         drafted.rules,
     ) {
-        return refused(f, Cause::Plain(17));
+        return Ruling::Refused(Cause::Plain(17));
     }
-    let jobs = drafted.jobs;
-    let lines = drafted.lines;
-    let frame = Frame {
-        horizon: f.horizon,
-        lead: f.lead,
-        clock: f.clock,
-        jobs,
-        lines,
-    };
-    Framed {
-        ruling: Ruling::Accepted,
-        frame,
-    }
+    let after = drafted.jobs;
+    put_front(w, clock, after);
+    copy_lines(w, &next);
+    Ruling::Accepted
 }
 
 // An offer on a sound board, of a good plant file: 7 to 13, or what its job comes to.
-fn plan_offer(f: Frame, t: &mut [u32], plant: &[u8], end: Trailer, offer: &[u8]) -> Framed
-    requires { ⌜ length (now t) ≡ 4225 ⌝ }
-    requires { ⌜ Sound (whole f (now t)) × (plantRuling (now plant) ≡ Accepted) × (end ≡ trailerOf (now plant)) × (length (f .lines) ≡ 16) ⌝ }
-    ensures { λ r. ⌜ ruledWith r (now (t .exit)) ≡ heard (whole f (now (t .entry))) (readingOf (now (plant .entry)) (now (offer .entry))) ⌝ }
+fn plan_offer(w: &mut [u32], jobs: Jobs, plant: &[u8], end: Trailer, offer: &[u8]) -> Ruling
+    requires { ⌜ length (now w) ≡ 5829 ⌝ }
+    requires { ⌜ (sound (boardIn (now w)) ≡ true) × (jobs ≡ heldJobs (wordIn (now w))) × (plantRuling (now plant) ≡ Accepted) × (end ≡ trailerOf (now plant)) ⌝ }
+    ensures ruling { λ r. ⌜ r ≡ heard (boardIn (now (w .entry))) (readingOf (now (plant .entry)) (now (offer .entry))) .ruling ⌝ }
+    ensures words { λ _. ⌜ now (w .exit) ≡ wordsAfter (now (w .entry)) (heard (boardIn (now (w .entry))) (readingOf (now (plant .entry)) (now (offer .entry)))) ⌝ }
 {
     let format = read_offer(plant, end, offer);
     if let Ruling::Refused(cause) = format {
-        return refused(f, cause);
+        return Ruling::Refused(cause);
     }
     let chain = check_chain(plant, end, offer);
     if let Ruling::Refused(cause) = chain {
-        return refused(f, cause);
+        return Ruling::Refused(cause);
     }
     let steps = read_durations(plant, end, offer);
     let puts = read_puts(plant, end, offer);
-    plan_job(f, t, u32_at(offer, 0), steps, puts)
+    plan_job(w, jobs, u32_at(offer, 0), steps, puts)
 }
 
-// The first of refusals 1 to 4, 6 and 7 to 17, or the board with the offer's job.
-pub fn plan_on(f: Frame, t: &mut [u32], plant: &[u8], offer: &[u8]) -> Framed
-    requires { ⌜ length (now t) ≡ 4225 ⌝ }
-    ensures { λ r. ⌜ ruledWith r (now (t .exit)) ≡ planned (whole f (now (t .entry))) (now (plant .entry)) (now (offer .entry)) ⌝ }
+// The first of refusals 1 to 4, 6 and 7 to 17, or the words of the board with the offer's job.
+pub fn plan_in(w: &mut [u32], plant: &[u8], offer: &[u8]) -> Ruling
+    requires { ⌜ length (now w) ≡ 5829 ⌝ }
+    ensures ruling { λ r. ⌜ r ≡ planned (boardIn (now (w .entry))) (now (plant .entry)) (now (offer .entry)) .ruling ⌝ }
+    ensures words { λ _. ⌜ now (w .exit) ≡ wordsAfter (now (w .entry)) (planned (boardIn (now (w .entry))) (now (plant .entry)) (now (offer .entry))) ⌝ }
 {
     let first = check_plant(plant);
     if let Ruling::Refused(cause) = first {
-        return refused(f, cause);
+        return Ruling::Refused(cause);
     }
-    if !is_sound_on(f, t) {
-        return refused(f, Cause::Plain(6));
+    let jobs = read_jobs(w);
+    if !is_sound_in(w, jobs) {
+        return Ruling::Refused(Cause::Plain(6));
     }
-    plan_offer(f, t, plant, read_trailer(plant), offer)
-}
-
-// The same on a board by value.
-pub fn plan(b: Board, plant: &[u8], offer: &[u8]) -> Ruled
-    ensures { λ r. ⌜ r ≡ planned b (now (plant .entry)) (now (offer .entry)) ⌝ }
-{
-    let mut gaps = b.gaps;
-    let answer = plan_on(frame_of(b), &mut gaps, plant, offer);
-    with_table(answer, gaps)
+    plan_offer(w, jobs, plant, read_trailer(plant), offer)
 }

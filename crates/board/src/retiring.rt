@@ -1,79 +1,75 @@
 // Retires the oldest job: it leaves the list, the lines and the table.
-use crate::Framed;
-use crate::Ruled;
 use crate::parts::live_count;
-use crate::parts::refused;
-use crate::parts::with_table;
+use crate::parts::put_front;
+use boardwords::read_jobs;
 use gaps::drop_points;
+use lines::Jobs;
 use lines::drop_oldest;
-use lines::stay_lines;
+use linewords::stay_lines;
 use rulings::Cause;
 use rulings::Ruling;
 use settling::are_over;
-use sound::Board;
-use sound::Frame;
-use sound::frame_of;
-use sound::is_sound_on;
+use sound::is_sound_in;
 ghost use mathlib.Core.Path.{_≡_};
 ghost use mathlib.Core.Bool.{true};
-ghost use Prim.Native.Nat.{_≤_};
+ghost use mathlib.Core.List.{_∷_};
+ghost use Prim.Native.Nat.{_+_, _-_, _≤_};
 ghost use lib.ListN.{length, getD};
-ghost use Rattle.lines.specs.Held.{noJob};
-ghost use Rattle.sound.specs.Framed.{whole};
-ghost use Rattle.sound.specs.Sound.{Sound, sound};
-ghost use Rattle.board.specs.Calls.{retired, ruledWith};
+ghost use Rattle.plain.specs.Plain.{notAfter, allEndBy};
+ghost use Rattle.lines.specs.Held.{linesOf, noJob};
+ghost use Rattle.lines.specs.Asked.{Lined};
+ghost use Rattle.stn.specs.Table.{implied};
+ghost use Rattle.gaps.specs.Cells.{tableOf};
+ghost use Rattle.settling.specs.Ending.{InReach};
+ghost use Rattle.boardwords.specs.Words.{wordIn, heldJobs, linesFrom, cellsFrom, boardIn};
+ghost use Rattle.sound.specs.Sound.{sound};
+ghost use Rattle.board.specs.Calls.{retired};
+ghost use Rattle.board.specs.InWords.{wordsAfter};
 
-// The oldest job, which was sent, on a sound board: 21, or the board without it. Its points are those from 1 on.
-fn retire_sent(f: Frame, t: &mut [u32]) -> Framed
-    requires { ⌜ length (now t) ≡ 4225 ⌝ }
-    requires { ⌜ (sound (whole f (now t)) ≡ true) × Sound (whole f (now t)) × (1 ≤ f .jobs .count) × (getD (f .jobs .jobs) 0 noJob .sent ≡ true) ⌝ }
-    ensures { λ r. ⌜ ruledWith r (now (t .exit)) ≡ retired (whole f (now (t .entry))) ⌝ }
+// The m points from 1 on are over by the clock.
+fn is_over(w: &[u32], m: u32) -> bool
+    requires { ⌜ length (now w) ≡ 5829 ⌝ }
+    requires { ⌜ InReach (cellsFrom (wordIn (now w))) (wordIn (now w) 2) 1 m × (1 ≤ m) × Lined (linesFrom (wordIn (now w))) ⌝ }
+    ensures { λ r. ⌜ r ≡ implied (tableOf (cellsFrom (wordIn (now (w .entry))))) (notAfter (1 + m - 1) (wordIn (now (w .entry)) 2) ∷ allEndBy (wordIn (now (w .entry)) 2) 1 m (linesOf (linesFrom (wordIn (now (w .entry)))))) ⌝ }
 {
-    let jobs = f.jobs;
-    let lines = f.lines;
-    let oldest = jobs.jobs[0];
-    let m = oldest.points;
-    if !are_over(t, f.clock, 1, m, lines) {
-        return refused(f, Cause::Plain(21));
-    }
-    drop_points(t, 1, m as usize, live_count(jobs));
-    let frame = Frame {
-        horizon: f.horizon,
-        lead: f.lead,
-        clock: f.clock,
-        jobs: drop_oldest(jobs),
-        lines: stay_lines(lines, 1, m),
-    };
-    Framed {
-        ruling: Ruling::Accepted,
-        frame,
-    }
+    are_over(&w[1604..], w[2], 1, m, w)
 }
 
-// 6 and 21, or the board without its oldest job.
-pub fn retire_on(f: Frame, t: &mut [u32]) -> Framed
-    requires { ⌜ length (now t) ≡ 4225 ⌝ }
-    ensures { λ r. ⌜ ruledWith r (now (t .exit)) ≡ retired (whole f (now (t .entry))) ⌝ }
+// The oldest job, which was sent, on a sound board: 21, or the board without it. Its points are those from 1 on.
+fn retire_sent(w: &mut [u32], jobs: Jobs) -> Ruling
+    requires { ⌜ length (now w) ≡ 5829 ⌝ }
+    requires { ⌜ (sound (boardIn (now w)) ≡ true) × (jobs ≡ heldJobs (wordIn (now w))) × (1 ≤ jobs .count) × (getD (jobs .jobs) 0 noJob .sent ≡ true) ⌝ }
+    ensures ruling { λ r. ⌜ r ≡ retired (boardIn (now (w .entry))) .ruling ⌝ }
+    ensures words { λ _. ⌜ now (w .exit) ≡ wordsAfter (now (w .entry)) (retired (boardIn (now (w .entry)))) ⌝ }
 {
-    if !is_sound_on(f, t) {
-        return refused(f, Cause::Plain(6));
+    let clock = w[2];
+    let oldest = jobs.jobs[0];
+    let m = oldest.points;
+    if !is_over(w, m) {
+        return Ruling::Refused(Cause::Plain(21));
     }
-    let jobs = f.jobs;
+    drop_points(&mut w[1604..], 1, m as usize, live_count(jobs));
+    put_front(w, clock, drop_oldest(jobs));
+    stay_lines(w, 1, m);
+    Ruling::Accepted
+}
+
+// 6 and 21, or the words of the board without its oldest job.
+pub fn retire_in(w: &mut [u32]) -> Ruling
+    requires { ⌜ length (now w) ≡ 5829 ⌝ }
+    ensures ruling { λ r. ⌜ r ≡ retired (boardIn (now (w .entry))) .ruling ⌝ }
+    ensures words { λ _. ⌜ now (w .exit) ≡ wordsAfter (now (w .entry)) (retired (boardIn (now (w .entry)))) ⌝ }
+{
+    let jobs = read_jobs(w);
+    if !is_sound_in(w, jobs) {
+        return Ruling::Refused(Cause::Plain(6));
+    }
     if jobs.count == 0 {
-        return refused(f, Cause::Plain(21));
+        return Ruling::Refused(Cause::Plain(21));
     }
     let oldest = jobs.jobs[0];
     if !oldest.sent {
-        return refused(f, Cause::Plain(21));
+        return Ruling::Refused(Cause::Plain(21));
     }
-    retire_sent(f, t)
-}
-
-// The same on a board by value.
-pub fn retire(b: Board) -> Ruled
-    ensures { λ r. ⌜ r ≡ retired b ⌝ }
-{
-    let mut gaps = b.gaps;
-    let answer = retire_on(frame_of(b), &mut gaps);
-    with_table(answer, gaps)
+    retire_sent(w, jobs)
 }

@@ -1,6 +1,7 @@
 // A fresh board.
 use crate::Ruled;
 use crate::Settings;
+use boardwords::Board;
 use gaps::BIAS;
 use lines::Jobs;
 use lines::Line;
@@ -8,7 +9,6 @@ use plain::Job;
 use plain::Use;
 use rulings::Cause;
 use rulings::Ruling;
-use sound::Board;
 ghost use mathlib.Core.Path.{_≡_};
 ghost use mathlib.Core.List.{[]};
 ghost use Rattle.lines.specs.Held.{jobsFrom, lineFrom, linesFrom};

@@ -1,10 +1,10 @@
 // What a log shows of a board: its gap table, and all else. Any number may stand in a board, so that each count is taken as no more than
-// there are places for. It may use text, and the structs of the board (plain, lines, sound).
+// there are places for. It may use text, and the structs of the board (plain, lines, boardwords).
+use boardwords::Board;
 use lines::Jobs;
 use lines::Line;
 use plain::Job;
 use plain::Use;
-use sound::Board;
 use text::least;
 use text::put;
 use text::put_number;

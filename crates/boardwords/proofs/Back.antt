@@ -1,4 +1,7 @@
 -- Words that were written and are read again.
+--   same-use     a use with these three numbers
+--   written-count, written-line   the words that hold the counts
+--   lines-word, lines-back   a word of the lines, and the lines
 --   board-back   the board of the words of a board, with arrays of their lengths and counts below 2^32, is that board
 use Prim.Native.Nat.{ℕ, suc, _+_, _*_, _<_, _≤_}
 use mathlib.Core.Path.{_≡_, refl, _∙_, ap}
@@ -12,9 +15,8 @@ use Rattle.plain.specs.declared.Use.{Use}
 use Rattle.plain.specs.Plain.{noUse}
 use Rattle.lines.specs.declared.Line.{Line}
 use Rattle.lines.specs.Held.{noJob, noLine}
-use Rattle.sound.specs.declared.Board.{Board}
-use Rattle.sound.specs.Framed.{frameOf}
-use Rattle.boardwords.specs.Words.{wordIn, boardIn, jobAt, useAt, lineAt, cellAt}
+use Rattle.boardwords.specs.declared.Board.{Board}
+use Rattle.boardwords.specs.Words.{wordIn, boardIn, jobAt, useAt, lineAt, linesFrom, cellAt}
 use Rattle.boardwords.specs.Codec.{counted, jobWords, useWords, lineWords, jobsWords, linesWords, cellsWords, headWords, frameWords, wordsOf, Writable}
 use Rattle.boardwords.proofs.Listed.{past, listed-same, listed-at, listed-back}
 use Rattle.boardwords.proofs.Blocks.{joined-at}
@@ -24,7 +26,7 @@ use Rattle.boardwords.proofs.Inverse.{counted-is, mark-small, mark-is, 
 same-job : (j : Job) {p q : ℕ} {s : Bool} → p ≡ j .points → q ≡ j .batch → s ≡ j .sent → record { points = p; batch = q; sent = s } ≡ j
 same-job j a b c = rw (a, b, c)
 
-same-use : (u : Use) {p q r : ℕ} → p ≡ u .point → q ≡ u .offset → r ≡ u .length → record { point = p; offset = q; length = r } ≡ u
+pub same-use : (u : Use) {p q r : ℕ} → p ≡ u .point → q ≡ u .offset → r ≡ u .length → record { point = p; offset = q; length = r } ≡ u
 same-use u a b c = rw (a, b, c)
 
 same-line : (l : Line) {n : ℕ} {us : List Use} → n ≡ l .count → us ≡ l .uses → record { count = n; uses = us } ≡ l
@@ -43,31 +45,43 @@ module _ (b : Board) where
   unfolding wordsOf frameWords
   head-words = (refl, refl, refl, refl)
 
+  pub written-count : wordIn (wordsOf b) 3 ≡ counted (b .jobs .count)
+  written-count = head-words .3
+
   -- a word of the frame, a word behind its head, and a cell
-  in-frame : (n : ℕ) → n < 1604 → wordIn (wordsOf b) n ≡ wordIn (frameWords (frameOf b)) n
+  in-frame : (n : ℕ) → n < 1604 → wordIn (wordsOf b) n ≡ wordIn (frameWords b) n
   unfolding wordsOf
-  in-frame n h = List·getD-append (frameWords (frameOf b)) (cellsWords (b .gaps)) 0 n (omega (arith, length-frame (frameOf b)))
+  in-frame n h = List·getD-append (frameWords b) (cellsWords (b .gaps)) 0 n (omega (arith, length-frame b))
 
   behind-head : (n k : ℕ) → n ≡ 4 + k → k < 1600 → wordIn (wordsOf b) n ≡ getD (jobsWords (b .jobs .jobs) ++ linesWords (b .lines)) k 0
   unfolding frameWords
   behind-head n k e h =
-      in-frame n (omega arith) ∙ past (headWords (frameOf b)) (jobsWords (b .jobs .jobs) ++ linesWords (b .lines)) n k 0 e
+      in-frame n (omega arith) ∙ past (headWords b) (jobsWords (b .jobs .jobs) ++ linesWords (b .lines)) n k 0 e
 
   job-word :
       (k i n : ℕ) → k < 16 → i < 3 → n ≡ 4 + (3 * k + i)
       → wordIn (wordsOf b) n ≡ getD (jobWords (getD (b .jobs .jobs) k noJob)) i 0
   job-word k i n h l e =
       behind-head n (3 * k + i) e (omega arith)
-      ∙ List·getD-append (jobsWords (b .jobs .jobs)) (linesWords (b .lines)) 0 (3 * k + i) (omega (arith, length-jobs (frameOf b)))
+      ∙ List·getD-append (jobsWords (b .jobs .jobs)) (linesWords (b .lines)) 0 (3 * k + i) (omega (arith, length-jobs (b .jobs .jobs)))
       ∙ joined-at (λ j. jobWords (getD (b .jobs .jobs) j noJob)) 3 16 k i (λ j. refl) h l
+
+  -- a word of the lines
+  pub lines-word : (n : ℕ) → n < 1552 → wordIn (wordsOf b) (52 + n) ≡ getD (linesWords (b .lines)) n 0
+  lines-word n h =
+      behind-head (52 + n) (48 + n) (omega arith) (omega arith)
+      ∙ past (jobsWords (b .jobs .jobs)) (linesWords (b .lines)) (48 + n) n 0 (omega (arith, length-jobs (b .jobs .jobs)))
 
   line-word :
       (k i n : ℕ) → k < 16 → i < 97 → n ≡ 52 + (97 * k + i)
       → wordIn (wordsOf b) n ≡ getD (lineWords (getD (b .lines) k noLine)) i 0
   line-word k i n h l e =
-      behind-head n (48 + (97 * k + i)) (omega arith) (omega arith)
-      ∙ past (jobsWords (b .jobs .jobs)) (linesWords (b .lines)) (48 + (97 * k + i)) (97 * k + i) 0 (omega (arith, length-jobs (frameOf b)))
+      ap (wordIn (wordsOf b)) e
+      ∙ lines-word (97 * k + i) (omega arith)
       ∙ joined-at (λ j. lineWords (getD (b .lines) j noLine)) 97 16 k i (λ j. length-line (getD (b .lines) j noLine)) h l
+
+  pub written-line : (k : ℕ) → k < 16 → wordIn (wordsOf b) (52 + 97 * k) ≡ counted (getD (b .lines) k noLine .count)
+  written-line k h = line-word k 0 (52 + 97 * k) h (omega arith) (omega arith)
 
   use-word :
       (k m i n : ℕ) → k < 16 → m < 32 → i < 3 → n ≡ 53 + 97 * k + (3 * m + i)
@@ -79,7 +93,7 @@ module _ (b : Board) where
   cell-word : (k : ℕ) → k < 4225 → wordIn (wordsOf b) (1604 + k) ≡ getD (b .gaps) k 0
   unfolding wordsOf
   cell-word k h =
-      past (frameWords (frameOf b)) (cellsWords (b .gaps)) (1604 + k) k 0 (omega (arith, length-frame (frameOf b)))
+      past (frameWords b) (cellsWords (b .gaps)) (1604 + k) k 0 (omega (arith, length-frame b))
       ∙ listed-at (λ i. getD (b .gaps) i 0) 4225 k 0 h
 
   marks-written : (k : ℕ) → k < 16 → wordIn (wordsOf b) (6 + 3 * k) ≤ 1
@@ -108,16 +122,22 @@ module _ (b : Board) where
       → lineAt (wordIn (wordsOf b)) k ≡ getD (b .lines) k noLine
   line-back k h len small =
       same-line (getD (b .lines) k noLine)
-      (line-word k 0 (52 + 97 * k) h (omega arith) (omega arith) ∙ counted-is (getD (b .lines) k noLine .count) small)
+      (written-line k h ∙ counted-is (getD (b .lines) k noLine .count) small)
       (listed-same (useAt (wordIn (wordsOf b)) (52 + 97 * k + 1)) (λ m. getD (getD (b .lines) k noLine .uses) m noUse) 32
       (λ m l. use-back k m h l)
       ∙ listed-back (getD (b .lines) k noLine .uses) 32 noUse len)
 
+  pub lines-back :
+      length (b .lines) ≡ 16 → ((k : ℕ) → k < 16 → length (getD (b .lines) k noLine .uses) ≡ 32)
+      → ((k : ℕ) → k < 16 → getD (b .lines) k noLine .count ≤ 4294967295) → linesFrom (wordIn (wordsOf b)) ≡ b .lines
+  lines-back many full small =
+      listed-same (lineAt (wordIn (wordsOf b))) (λ k. getD (b .lines) k noLine) 16 (λ k h. line-back k h (full k h) (small k h))
+      ∙ listed-back (b .lines) 16 noLine many
+
   pub board-back : Writable b → boardIn (wordsOf b) ≡ b
   board-back s =
       same-board b (rw (marks-hold (wordIn (wordsOf b)) marks-written) (head-words .0)) (head-words .1) (head-words .2)
-      (head-words .3 ∙ counted-is (b .jobs .count) (s .4))
-      (listed-same (jobAt (wordIn (wordsOf b))) (λ k. getD (b .jobs .jobs) k noJob) 16 job-back ∙ listed-back (b .jobs .jobs) 16 noJob (s .0))
-      (listed-same (lineAt (wordIn (wordsOf b))) (λ k. getD (b .lines) k noLine) 16 (λ k h. line-back k h (s .2 k h) (s .5 k h))
-      ∙ listed-back (b .lines) 16 noLine (s .1))
-      (listed-same (cellAt (wordIn (wordsOf b))) (λ k. getD (b .gaps) k 0) 4225 cell-word ∙ listed-back (b .gaps) 4225 0 (s .3))
+      (head-words .3 ∙ counted-is (b .jobs .count) (s .1))
+      (listed-same (jobAt (wordIn (wordsOf b))) (λ k. getD (b .jobs .jobs) k noJob) 16 job-back ∙ listed-back (b .jobs .jobs) 16 noJob (s .0 .0))
+      (lines-back (s .0 .1) (s .0 .2) (s .2))
+      (listed-same (cellAt (wordIn (wordsOf b))) (λ k. getD (b .gaps) k 0) 4225 cell-word ∙ listed-back (b .gaps) 4225 0 (s .0 .3))

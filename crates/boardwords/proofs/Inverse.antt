@@ -1,20 +1,21 @@
 -- Words that were read and are written again.
---   counted-is, mark-is, marks-hold   counts that fit a word, marks of 0 and 1
+--   counted-is, counted-small, mark-is, marks-hold   counts that fit a word, marks of 0 and 1
+--   uses-read, lines-read   the words of uses, of lines, that were read
 --   words-back   the words of the board of a list of 5,829 words, each below 2^32 and the marks 0 or 1, are that list
--- Words of a C caller are below 2^32 by their type. Of a mark that is neither 0 nor 1, `unmarked` (proofs/Boards) says that the board is not
+-- Words of a C caller are below 2^32 by their type. Of a mark that is neither 0 nor 1, `unmarked` (crates/sound) says that the board is not
 -- sound: every call refuses it, and no word is written.
 use Prim.Native.Nat.{ℕ, zero, suc, _+_, _*_, _<_, _≤_}
 use mathlib.Core.Path.{_≡_, refl, sym, _∙_, ap, ap₂}
-use mathlib.Core.Bool.{Bool, true, false, _||_}
+use mathlib.Core.Bool.{Bool, true, false, cond, _||_}
 use mathlib.Core.List.{List, [], _∷_, _++_}
 use lib.ListN.{length, getD}
-use lib.Dec.{eqb, leb}
+use lib.Dec.{eqb, leb, ltb}
 use borrow.Author.Tests.{le-leb, le-ltb}
 use native.Mathlib.Omega.{arith}
 use Rattle.plain.specs.Plain.{noUse}
 use Rattle.lines.specs.Held.{noJob, noLine}
 use Rattle.lists.proofs.AllBelow.{allBelow-of}
-use Rattle.boardwords.specs.Words.{Words, wordIn, boardIn, listed, jobAt, jobsFrom, useAt, usesFrom, lineAt, linesFrom, cellAt, cellsFrom, marked, allMarked, frameFrom, boardFrom}
+use Rattle.boardwords.specs.Words.{Words, wordIn, boardIn, listed, jobAt, jobsFrom, useAt, usesFrom, lineAt, linesFrom, cellAt, cellsFrom, marked, allMarked, boardFrom}
 use Rattle.boardwords.specs.Codec.{counted, markOf, jobWords, useWords, usesWords, lineWords, jobsWords, linesWords, cellsWords, headWords, frameWords, wordsOf}
 use Rattle.boardwords.proofs.Listed.{listed-same, listed-at, listed-back, listed-add}
 use Rattle.boardwords.proofs.Blocks.{joined-same, joined-blocks}
@@ -24,6 +25,15 @@ use Rattle.boardwords.proofs.Blocks.{joined-same, joined-blocks}
 pub counted-is : (n : ℕ) → n ≤ 4294967295 → counted n ≡ n
 unfolding counted
 counted-is n h = rw (le-ltb 4294967295 n h)
+
+-- a count that is small as a word is small
+pub counted-small : (n m : ℕ) → counted n ≤ m → m < 4294967295 → n ≤ m
+unfolding counted
+counted-small n m h l = go (ltb 4294967295 n) refl h
+  where
+    go : (t : Bool) → ltb 4294967295 n ≡ t → cond t 4294967295 n ≤ m → n ≤ m
+    go true e q = absurd (omega arith)
+    go false e q = q
 
 mark-back : (m : ℕ) → m ≤ 1 → markOf (eqb m 1) ≡ m
 mark-back zero h = refl
@@ -72,7 +82,7 @@ module _ (w : Words) where
       (ap w {x = p + 3 * k + 2} {y = p + (3 * k + 2)} (omega arith))
       ∙ sym (listed-three (λ i. w (p + (3 * k + i))))
 
-  uses-read : (p : ℕ) → usesWords (usesFrom w p) ≡ listed (λ j. w (p + j)) 96
+  pub uses-read : (p : ℕ) → usesWords (usesFrom w p) ≡ listed (λ j. w (p + j)) 96
   uses-read p =
       joined-same (λ k. useWords (getD (usesFrom w p) k noUse)) (λ k. listed (λ i. w (p + (3 * k + i))) 3) 32
       (λ k h. ap useWords (listed-at (useAt w p) 32 k noUse h) ∙ block p k)
@@ -96,17 +106,17 @@ module _ (w : Words) where
       ∙ ap (λ (l : List ℕ). l ++ listed (λ j. w (52 + (97 * k + (1 + j)))) 96) (sym (listed-one (λ i. w (52 + (97 * k + i)))))
       ∙ sym (listed-add (λ i. w (52 + (97 * k + i))) 1 96)
 
-  lines-read : ((k : ℕ) → w k ≤ 4294967295) → linesWords (linesFrom w) ≡ listed (λ j. w (52 + j)) 1552
+  pub lines-read : ((k : ℕ) → k < 16 → w (52 + 97 * k) ≤ 4294967295) → linesWords (linesFrom w) ≡ listed (λ j. w (52 + j)) 1552
   lines-read h =
       joined-same (λ k. lineWords (getD (linesFrom w) k noLine)) (λ k. listed (λ i. w (52 + (97 * k + i))) 97) 16
-      (λ k l. ap lineWords (listed-at (lineAt w) 16 k noLine l) ∙ line-read k (h (52 + 97 * k)))
+      (λ k l. ap lineWords (listed-at (lineAt w) 16 k noLine l) ∙ line-read k (h k l))
       ∙ joined-blocks (λ j. w (52 + j)) 97 16
 
   cells-read : cellsWords (cellsFrom w) ≡ listed (λ j. w (1604 + j)) 4225
   cells-read = listed-same (λ k. getD (cellsFrom w) k 0) (λ j. w (1604 + j)) 4225 (λ k h. listed-at (cellAt w) 4225 k 0 h)
 
   head-read :
-      ((k : ℕ) → k < 16 → w (6 + 3 * k) ≤ 1) → ((k : ℕ) → w k ≤ 4294967295) → headWords (frameFrom w) ≡ listed w 4
+      ((k : ℕ) → k < 16 → w (6 + 3 * k) ≤ 1) → ((k : ℕ) → w k ≤ 4294967295) → headWords (boardFrom w) ≡ listed w 4
   head-read marks h = rw (marks-hold w marks, counted-is (w 3) (h 3)) (sym (listed-four w))
 
   -- the words of the frame, in three parts
@@ -119,10 +129,10 @@ module _ (w : Words) where
       (listed-same (λ j. w (4 + (48 + j))) (λ j. w (52 + j)) 1552 (λ j l. ap w (omega arith))))
 
   frame-read :
-      ((k : ℕ) → k < 16 → w (6 + 3 * k) ≤ 1) → ((k : ℕ) → w k ≤ 4294967295) → frameWords (frameFrom w) ≡ listed w 1604
+      ((k : ℕ) → k < 16 → w (6 + 3 * k) ≤ 1) → ((k : ℕ) → w k ≤ 4294967295) → frameWords (boardFrom w) ≡ listed w 1604
   unfolding frameWords
   frame-read marks h =
-      ap₂ (λ (l m : List ℕ). l ++ m) (head-read marks h) (ap₂ (λ (l m : List ℕ). l ++ m) (jobs-read marks) (lines-read h)) ∙ sym parts
+      ap₂ (λ (l m : List ℕ). l ++ m) (head-read marks h) (ap₂ (λ (l m : List ℕ). l ++ m) (jobs-read marks) (lines-read (λ k l. h (52 + 97 * k)))) ∙ sym parts
 
   all-read : ((k : ℕ) → k < 16 → w (6 + 3 * k) ≤ 1) → ((k : ℕ) → w k ≤ 4294967295) → wordsOf (boardFrom w) ≡ listed w 5829
   unfolding wordsOf

@@ -4,3 +4,4 @@ pub mod Put
 pub mod Boards
 pub mod Inverse
 pub mod Back
+pub mod Lent

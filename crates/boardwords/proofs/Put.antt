@@ -4,25 +4,27 @@
 --   put-three      three words stored one by one;  put-four: the first four
 --   put-turn       a loop's turn: the words of element k behind those before it
 --   put-cell       the same for a single word
+--   put-below, put-from   a word outside of what is written stays
+--   each-more      what a loop has shown of each element so far
 --   put-whole      a list that is written over as a whole;  put-front: its front part
 --   length-frame, length-words   the words of a frame and of a board are 1,604 and 5,829
---   put-frame      a frame's parts written one behind the other;  put-board: a frame and the cells
+--   put-frame      a frame's parts written one behind the other;  put-board: the cells behind them
 use Prim.Native.Nat.{ℕ, zero, suc, _+_, _*_, _<_, _≤_}
-use mathlib.Core.Path.{_≡_, refl, sym, _∙_, ap}
+use mathlib.Core.Path.{_≡_, refl, sym, _∙_, ap, subst}
 use mathlib.Core.List.{List, [], _∷_, _++_, append-nil, append-assoc}
 use lib.ListN.{length, getD, set, take, length-set, length-append}
-use lib.Seq.{take-all, set-append-left}
+use lib.Seq.{take-all, set-append-left, getD-set-other}
+use native.Mathlib.Decide.{decLt}
 use native.Mathlib.Numerals.{add-one}
 use native.Mathlib.Omega.{arith}
 use Rattle.boardwords.specs.Words.{listed}
 use Rattle.boardwords.proofs.Listed.{length-listed}
+use Rattle.plain.specs.declared.Job.{Job}
 use Rattle.lines.specs.declared.Line.{Line}
 use Rattle.lines.specs.Held.{noJob, noLine}
 use Rattle.plain.specs.Plain.{noUse}
-use Rattle.sound.specs.declared.Board.{Board}
-use Rattle.sound.specs.declared.Frame.{Frame}
-use Rattle.sound.specs.Framed.{frameOf}
-use Rattle.boardwords.specs.Codec.{joined, put, counted, jobWords, useWords, lineWords, headWords, jobsWords, linesWords, cellsWords, frameWords, wordsOf}
+use Rattle.boardwords.specs.declared.Board.{Board}
+use Rattle.boardwords.specs.Codec.{joined, put, jobWords, useWords, lineWords, headWords, jobsWords, linesWords, cellsWords, frameWords, wordsOf}
 use Rattle.boardwords.proofs.Blocks.{length-joined}
 
 pub put-length : (w : List ℕ) (at : ℕ) (l : List ℕ) → length (put w at l) ≡ length w
@@ -43,9 +45,9 @@ put-three w at a b c =
     let two : at + 2 ≡ suc (suc at) = omega arith in
     rw (one, two)
 
-pub put-four : (w : List ℕ) (a b c d : ℕ) → set (set (set (set w 0 a) 1 b) 2 c) 3 d ≡ put w 0 (a ∷ b ∷ c ∷ d ∷ [])
+pub put-four : (w : List ℕ) (a b c d n : ℕ) → d ≡ n → set (set (set (set w 0 a) 1 b) 2 c) 3 d ≡ put w 0 (a ∷ b ∷ c ∷ n ∷ [])
 unfolding put
-put-four w a b c d = refl
+put-four w a b c d n e = rw e
 
 -- a word that is known by an equation: the last of three, and the first of many
 pub put-last : (w : List ℕ) (at a b m n : ℕ) (x : List ℕ) → x ≡ put w at (a ∷ b ∷ m ∷ []) → m ≡ n → x ≡ put w at (a ∷ b ∷ n ∷ [])
@@ -90,6 +92,27 @@ put-cell f w₀ at k w v is new =
     rw (add-one k, is, new)
     (sym (put-append w₀ at (listed f k) (f k ∷ []) (at + k) (ap (λ (i : ℕ). at + i) (sym (length-listed f k)))))
 
+-- a word before those that are written, or behind them, stays
+pub put-below : (w : List ℕ) (at : ℕ) (l : List ℕ) (k : ℕ) → k < at → getD (put w at l) k 0 ≡ getD w k 0
+unfolding put
+put-below w at [] k h = refl
+put-below w at (x ∷ l) k h = put-below (set w at x) (suc at) l k (omega arith) ∙ getD-set-other w at k x 0 (λ e. absurd (omega arith))
+
+pub put-from : (w : List ℕ) (at : ℕ) (l : List ℕ) (k : ℕ) → at + length l ≤ k → getD (put w at l) k 0 ≡ getD w k 0
+unfolding put
+put-from w at [] k h = refl
+put-from w at (x ∷ l) k h = put-from (set w at x) (suc at) l k (omega arith) ∙ getD-set-other w at k x 0 (λ e. absurd (omega arith))
+
+-- what a loop has shown of each element that it passed
+pub each-more :
+    {A : Type 0} (P : A → Type 0) (l : List A) (z : A) (k : ℕ) → ((i : ℕ) → i < k → P (getD l i z)) → P (getD l k z)
+    → (i : ℕ) → i < k + 1 → P (getD l i z)
+each-more P l z k before now i h = go (decLt i k)
+  where
+    go : Dec (i < k) → P (getD l i z)
+    go (yes lt) = before i lt
+    go (no ge) = let e : k ≡ i = omega arith in subst (λ (j : ℕ). P (getD l j z)) e now
+
 -- the words before `at` stay
 take-set : (w : List ℕ) (at x : ℕ) → at < length w → take (suc at) (set w at x) ≡ take at w ++ (x ∷ [])
 take-set [] at x h = absurd (omega arith)
@@ -120,44 +143,41 @@ put-front w v l e = put-inside w v 0 l (omega arith) ∙ ap (λ (u : List ℕ). 
 
 -- ---- frames and boards
 
-pub length-jobs : (f : Frame) → length (jobsWords (f .jobs .jobs)) ≡ 48
-length-jobs f = length-joined (λ k. jobWords (getD (f .jobs .jobs) k noJob)) 3 16 (λ k. refl)
+pub length-jobs : (js : List Job) → length (jobsWords js) ≡ 48
+length-jobs js = length-joined (λ k. jobWords (getD js k noJob)) 3 16 (λ k. refl)
 
-pub length-lines : (f : Frame) → length (linesWords (f .lines)) ≡ 1552
-length-lines f = length-joined (λ k. lineWords (getD (f .lines) k noLine)) 97 16 (λ k. length-line (getD (f .lines) k noLine))
+pub length-lines : (ls : List Line) → length (linesWords ls) ≡ 1552
+length-lines ls = length-joined (λ k. lineWords (getD ls k noLine)) 97 16 (λ k. length-line (getD ls k noLine))
 
-pub length-frame : (f : Frame) → length (frameWords f) ≡ 1604
+pub length-frame : (b : Board) → length (frameWords b) ≡ 1604
 unfolding frameWords
-length-frame f =
-    let rest = length-append (jobsWords (f .jobs .jobs)) (linesWords (f .lines)) in omega (arith, rest, length-jobs f, length-lines f)
+length-frame b =
+    let rest = length-append (jobsWords (b .jobs .jobs)) (linesWords (b .lines)) in
+    omega (arith, rest, length-jobs (b .jobs .jobs), length-lines (b .lines))
 
 pub length-words : (b : Board) → length (wordsOf b) ≡ 5829
 unfolding wordsOf
 length-words b =
-    length-append (frameWords (frameOf b)) (cellsWords (b .gaps))
-    ∙ omega (arith, length-frame (frameOf b), length-listed (λ k. getD (b .gaps) k 0) 4225)
+    length-append (frameWords b) (cellsWords (b .gaps)) ∙ omega (arith, length-frame b, length-listed (λ k. getD (b .gaps) k 0) 4225)
 
 -- head, jobs and lines written one behind the other
 pub put-frame :
-    (f : Frame) (w x y z : List ℕ) (n : ℕ) → x ≡ put w 0 (f .horizon ∷ f .lead ∷ f .clock ∷ n ∷ []) → n ≡ counted (f .jobs .count)
-    → y ≡ put x 4 (jobsWords (f .jobs .jobs)) → z ≡ put y 52 (linesWords (f .lines)) → z ≡ put w 0 (frameWords f)
+    (b : Board) (w x y z : List ℕ) → x ≡ put w 0 (headWords b) → y ≡ put x 4 (jobsWords (b .jobs .jobs)) → z ≡ put y 52 (linesWords (b .lines))
+    → z ≡ put w 0 (frameWords b)
 unfolding frameWords
-put-frame f w x y z n ex en ey ez =
-    let J = jobsWords (f .jobs .jobs) in
-    let L = linesWords (f .lines) in
-    let head : x ≡ put w 0 (headWords f) = rw (← en) ex in
-    let one : put w 0 (headWords f ++ (J ++ L)) ≡ put x 4 (J ++ L) = rw head (put-append w 0 (headWords f) (J ++ L) 4 refl) in
-    let two : put x 4 (J ++ L) ≡ put y 52 L = rw ey (put-append x 4 J L 52 (omega (arith, length-jobs f))) in
+put-frame b w x y z ex ey ez =
+    let J = jobsWords (b .jobs .jobs) in
+    let L = linesWords (b .lines) in
+    let one : put w 0 (headWords b ++ (J ++ L)) ≡ put x 4 (J ++ L) = rw ex (put-append w 0 (headWords b) (J ++ L) 4 refl) in
+    let two : put x 4 (J ++ L) ≡ put y 52 L = rw ey (put-append x 4 J L 52 (omega (arith, length-jobs (b .jobs .jobs)))) in
     sym (one ∙ (two ∙ sym ez))
 
--- the frame and the cells behind it
+-- the cells behind the frame
 pub put-board :
-    (b : Board) (f : Frame) (w x y : List ℕ) → length w ≡ 5829 → f ≡ frameOf b → x ≡ put w 0 (frameWords f)
-    → y ≡ put x 1604 (cellsWords (b .gaps)) → y ≡ wordsOf b
+    (b : Board) (w x y : List ℕ) → length w ≡ 5829 → x ≡ put w 0 (frameWords b) → y ≡ put x 1604 (cellsWords (b .gaps)) → y ≡ wordsOf b
 unfolding wordsOf
-put-board b f w x y len ef ex ey =
-    let F = frameWords (frameOf b) in
+put-board b w x y len ex ey =
+    let F = frameWords b in
     let G = cellsWords (b .gaps) in
-    let front : x ≡ put w 0 F = ex ∙ ap (λ (g : Frame). put w 0 (frameWords g)) ef in
-    let both : put w 0 (F ++ G) ≡ put x 1604 G = rw front (put-append w 0 F G 1604 (omega (arith, length-frame (frameOf b)))) in
+    let both : put w 0 (F ++ G) ≡ put x 1604 G = rw ex (put-append w 0 F G 1604 (omega (arith, length-frame b))) in
     ey ∙ (sym both ∙ put-whole w (F ++ G) (len ∙ sym (length-words b)))

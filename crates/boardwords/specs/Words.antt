@@ -1,15 +1,15 @@
 -- The words of a board, in the order of the struct (docs/FORMATS.md): horizon, lead, clock, job count; 16 times points, batch, sent; 16 times a
 -- line, that is its count and 32 times point, offset, length; 4,225 cells as stored. 5,829 in all, four bytes each. The first 1,604 are the
--- board's frame, the cells come behind it.
+-- board's frame, all but its table; the cells come behind it.
 -- Words are a function from a word's number, so that a part of the board is that part of any words.
 --   wordAt s k         word k of the bytes s
 --   wordIn l k         word k of the list l; 0 past its end
 --   listed f n         f 0, .., f (n - 1)
 --   jobFrom w at       the job, use, line whose first word is number `at`
 --   jobAt w k          job k, line k, cell k; use k of the line whose uses begin at word `at`
---   jobsFrom w         all of them;  usesFrom, linesFrom, cellsFrom
+--   jobsFrom w         all of them;  usesFrom, linesFrom, cellsFrom;  heldJobs w: the jobs with their count
 --   marked c k m       of c jobs, job k is past the end or its mark m is 0 or 1;  allMarked w: every job is
---   frameFrom w        the frame of these words;  boardFrom w: the board
+--   boardFrom w        the board of these words
 --   boardIn l          the board of a list of words
 --   decoded s          the board of the bytes s, and whether they are as many as a board has; zeros where they are not
 use Prim.Native.Nat.{ℕ, zero, suc, _+_, _*_}
@@ -20,11 +20,10 @@ use lib.Dec.{eqb, leb}
 use Rattle.words.specs.Word.{word}
 use Rattle.plain.specs.declared.Job.{Job}
 use Rattle.plain.specs.declared.Use.{Use}
+use Rattle.lines.specs.declared.Jobs.{Jobs}
 use Rattle.lines.specs.declared.Line.{Line}
 use Rattle.lists.specs.Loops.{allBelow}
-use Rattle.sound.specs.declared.Board.{Board}
-use Rattle.sound.specs.declared.Frame.{Frame}
-use Rattle.sound.specs.Framed.{whole}
+use Rattle.boardwords.specs.declared.Board.{Board}
 use Rattle.boardwords.specs.declared.Decoded.{Decoded}
 
 abbrev pub Words : Type 0
@@ -43,7 +42,7 @@ unfoldable pub listed : {A : Type 0} → (ℕ → A) → ℕ → List A
 listed f zero = []
 listed f (suc n) = listed f n ++ (f n ∷ [])
 
--- a mark of 1 is sent, 0 unsent; see `frameFrom` for any other
+-- a mark of 1 is sent, 0 unsent; see `boardFrom` for any other
 abbrev pub jobFrom : Words → ℕ → Job
 jobFrom w at = record { points = w at; batch = w (at + 1); sent = eqb (w (at + 2)) 1 }
 
@@ -52,6 +51,9 @@ jobAt w k = jobFrom w (4 + 3 * k)
 
 abbrev pub jobsFrom : Words → List Job
 jobsFrom w = listed (jobAt w) 16
+
+abbrev pub heldJobs : Words → Jobs
+heldJobs w = record { count = w 3; jobs = jobsFrom w }
 
 abbrev pub useFrom : Words → ℕ → Use
 useFrom w at = record { point = w at; offset = w (at + 1); length = w (at + 2) }
@@ -83,20 +85,18 @@ marked c k m = leb c k || leb m 1
 unfoldable pub allMarked : Words → Bool
 allMarked w = allBelow (λ k. marked (w 3) k (w (6 + 3 * k))) 16
 
--- "sent (0 or 1; anything else is no sound board)": such a board gets a horizon of 0, which no sound board has (theorem `unmarked`,
--- proofs/Boards)
-abbrev pub frameFrom : Words → Frame
-frameFrom w =
+-- "sent (0 or 1; anything else is no sound board)": such a board gets a horizon of 0, which no sound board has (theorem
+-- `unmarked`, crates/sound)
+abbrev pub boardFrom : Words → Board
+boardFrom w =
     record {
       horizon = cond (allMarked w) (w 0) 0;
       lead = w 1;
       clock = w 2;
-      jobs = record { count = w 3; jobs = jobsFrom w };
+      jobs = heldJobs w;
       lines = linesFrom w;
+      gaps = cellsFrom w;
     }
-
-abbrev pub boardFrom : Words → Board
-boardFrom w = whole (frameFrom w) (cellsFrom w)
 
 abbrev pub boardIn : List ℕ → Board
 boardIn l = boardFrom (wordIn l)

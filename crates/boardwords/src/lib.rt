@@ -1,18 +1,33 @@
 // A board and its words: 5,829 of them, in the order of specs/Words. Words come from outside and may be any: whether the board is sound is for
 // the board's calls to say.
-// It may use words, lists and the structs of a board (plain, lines, sound), and rules on nothing.
+// It may use words, lists and the structs of jobs and lines (plain, lines), and rules on nothing.
 mod reading; // a board from its words
 mod writing; // a board as its words
 
+use lines::Jobs;
+use lines::Line;
+pub use reading::are_marked;
 pub use reading::read_board;
-pub use reading::read_frame;
-use sound::Board;
+pub use reading::read_jobs;
+pub use reading::read_use;
 use words::u32_at;
+pub use writing::put_head;
+pub use writing::put_jobs;
+pub use writing::put_use;
 pub use writing::write_board;
-pub use writing::write_frame;
 ghost use mathlib.Core.Path.{_≡_};
 ghost use lib.ListN.{length};
 ghost use Rattle.boardwords.specs.Words.{wordAt, listed, decoded};
+
+// The jobs under way, the lines of their uses, and the gap table: cell (i, j) at 65 i + j holds the gap from i to j plus the bias.
+pub struct Board {
+    pub horizon: u32,
+    pub lead: u32,
+    pub clock: u32,
+    pub jobs: Jobs,
+    pub lines: [Line; 16],
+    pub gaps: [u32; 4225],
+}
 
 // The words of a board.
 pub const BOARD_WORDS: usize = 5829;

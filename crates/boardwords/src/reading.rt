@@ -1,15 +1,14 @@
-// A frame and a board read from their words, each number a word, by the definition in specs/Words.
+// A board and its parts read from their words, each number a word, by the definition in specs/Words.
+use crate::Board;
 use lines::Jobs;
 use lines::Line;
 use plain::Job;
 use plain::Use;
-use sound::Board;
-use sound::Frame;
-use sound::whole;
 ghost use mathlib.Core.Path.{_≡_};
+ghost use mathlib.Core.Bool.{cond};
 ghost use Prim.Native.Nat.{_+_, _≤_, _<_};
 ghost use lib.ListN.{length};
-ghost use Rattle.boardwords.specs.Words.{wordIn, jobFrom, jobsFrom, useFrom, usesFrom, lineFrom, linesFrom, cellsFrom, marked, allMarked, frameFrom, boardIn, zeros};
+ghost use Rattle.boardwords.specs.Words.{wordIn, jobFrom, jobsFrom, useFrom, usesFrom, lineFrom, linesFrom, cellsFrom, marked, allMarked, heldJobs, boardIn, zeros};
 
 // ---- words, jobs, lines and cells, each from the word where it begins
 
@@ -42,7 +41,18 @@ fn jobs(s: &[u32]) -> [Job; 16]
     next
 }
 
-fn one_use(s: &[u32], at: usize) -> Use
+// The jobs with their count, which may be any number.
+pub fn read_jobs(s: &[u32]) -> Jobs
+    requires { ⌜ 1604 ≤ length (now s) ⌝ }
+    ensures { λ r. ⌜ r ≡ heldJobs (wordIn (now (s .entry))) ⌝ }
+{
+    Jobs {
+        count: word(s, 3) as usize,
+        jobs: jobs(s),
+    }
+}
+
+pub fn read_use(s: &[u32], at: usize) -> Use
     requires { ⌜ at + 3 ≤ length (now s) ⌝ }
     ensures { λ r. ⌜ r ≡ useFrom (wordIn (now (s .entry))) at ⌝ }
 {
@@ -59,12 +69,12 @@ fn uses(s: &[u32], at: usize) -> [Use; 32]
 {
     let mut next = [no_use(); 32];
     for k in 0..32 {
-        next[k] = one_use(s, at + 3 * k);
+        next[k] = read_use(s, at + 3 * k);
     }
     next
 }
 
-fn line(s: &[u32], at: usize) -> Line
+fn read_line(s: &[u32], at: usize) -> Line
     requires { ⌜ at + 97 ≤ length (now s) ⌝ }
     ensures { λ r. ⌜ r ≡ lineFrom (wordIn (now (s .entry))) at ⌝ }
 {
@@ -74,13 +84,13 @@ fn line(s: &[u32], at: usize) -> Line
     }
 }
 
-fn lines(s: &[u32]) -> [Line; 16]
+fn read_lines(s: &[u32]) -> [Line; 16]
     requires { ⌜ 1604 ≤ length (now s) ⌝ }
     ensures { λ r. ⌜ r ≡ linesFrom (wordIn (now (s .entry))) ⌝ }
 {
     let mut next = [no_line(); 16];
     for k in 0..16 {
-        next[k] = line(s, 52 + 97 * k);
+        next[k] = read_line(s, 52 + 97 * k);
     }
     next
 }
@@ -136,7 +146,7 @@ fn is_marked(count: usize, k: usize, mark: u32) -> bool
     (count <= k) | (mark <= 1)
 }
 
-fn are_marked(s: &[u32]) -> bool
+pub fn are_marked(s: &[u32]) -> bool
     requires { ⌜ 1604 ≤ length (now s) ⌝ }
     ensures { λ r. ⌜ r ≡ allMarked (wordIn (now (s .entry))) ⌝ }
 {
@@ -151,7 +161,7 @@ fn are_marked(s: &[u32]) -> bool
 // No board has a horizon of 0: it stands for a mark that no board has either.
 fn horizon(s: &[u32]) -> u32
     requires { ⌜ 1604 ≤ length (now s) ⌝ }
-    ensures { λ r. ⌜ r ≡ frameFrom (wordIn (now (s .entry))) .horizon ⌝ }
+    ensures { λ r. ⌜ r ≡ cond (allMarked (wordIn (now (s .entry)))) (wordIn (now (s .entry)) 0) 0 ⌝ }
 {
     if are_marked(s) {
         return word(s, 0);
@@ -159,27 +169,17 @@ fn horizon(s: &[u32]) -> u32
     0
 }
 
-// The frame that the first 1,604 words hold.
-pub fn read_frame(s: &[u32]) -> Frame
-    requires { ⌜ 1604 ≤ length (now s) ⌝ }
-    ensures { λ r. ⌜ r ≡ frameFrom (wordIn (now (s .entry))) ⌝ }
-{
-    Frame {
-        horizon: horizon(s),
-        lead: word(s, 1),
-        clock: word(s, 2),
-        jobs: Jobs {
-            count: word(s, 3) as usize,
-            jobs: jobs(s),
-        },
-        lines: lines(s),
-    }
-}
-
 // The board that these words hold.
 pub fn read_board(s: &[u32]) -> Board
     requires { ⌜ length (now s) ≡ 5829 ⌝ }
     ensures { λ r. ⌜ r ≡ boardIn (now (s .entry)) ⌝ }
 {
-    whole(read_frame(s), cells(s))
+    Board {
+        horizon: horizon(s),
+        lead: word(s, 1),
+        clock: word(s, 2),
+        jobs: read_jobs(s),
+        lines: read_lines(s),
+        gaps: cells(s),
+    }
 }

@@ -1,22 +1,21 @@
-// A frame and a board written as their words, by the definition in specs/Codec.
+// A board and its parts written as their words, by the definition in specs/Codec.
+use crate::Board;
 use lines::Jobs;
 use lines::Line;
 use plain::Job;
 use plain::Use;
-use sound::Board;
-use sound::Frame;
-use sound::frame_of;
 ghost use mathlib.Core.Path.{_≡_};
 ghost use mathlib.Core.List.{[], _∷_};
-ghost use Prim.Native.Nat.{_+_, _≤_};
-ghost use lib.ListN.{length};
-ghost use Rattle.boardwords.specs.Codec.{counted, markOf, jobWords, jobsWords, useWords, usesWords, lineWords, linesWords, cellsWords, frameWords, wordsOf, put};
+ghost use Prim.Native.Nat.{ℕ, _+_, _≤_, _<_};
+ghost use lib.ListN.{length, getD};
+ghost use Rattle.lines.specs.Held.{noLine};
+ghost use Rattle.boardwords.specs.Codec.{counted, markOf, jobWords, jobsWords, useWords, usesWords, lineWords, linesWords, cellsWords, wordsOf, Arrays, put};
 
 fn counted(n: usize) -> u32
     ensures { λ r. ⌜ r ≡ counted n ⌝ }
 {
     if 4294967295 < n {
-        return 0;
+        return 4294967295;
     }
     n as u32
 }
@@ -40,14 +39,15 @@ fn put_three(w: &mut [u32], at: usize, a: u32, b: u32, c: u32)
     w[at + 2] = c;
 }
 
-fn put_head(w: &mut [u32], horizon: u32, lead: u32, clock: u32, count: u32)
+// The first four words.
+pub fn put_head(w: &mut [u32], horizon: u32, lead: u32, clock: u32, count: usize)
     requires { ⌜ 1604 ≤ length (now w) ⌝ }
-    ensures { λ _. ⌜ now (w .exit) ≡ put (now (w .entry)) 0 (horizon ∷ lead ∷ clock ∷ count ∷ []) ⌝ }
+    ensures { λ _. ⌜ now (w .exit) ≡ put (now (w .entry)) 0 (horizon ∷ lead ∷ clock ∷ counted count ∷ []) ⌝ }
 {
     w[0] = horizon;
     w[1] = lead;
     w[2] = clock;
-    w[3] = count;
+    w[3] = counted(count);
 }
 
 fn put_job(w: &mut [u32], at: usize, job: Job)
@@ -57,7 +57,7 @@ fn put_job(w: &mut [u32], at: usize, job: Job)
     put_three(w, at, job.points, job.batch, mark(job.sent));
 }
 
-fn put_jobs(w: &mut [u32], jobs: Jobs)
+pub fn put_jobs(w: &mut [u32], jobs: Jobs)
     requires { ⌜ 1604 ≤ length (now w) ⌝ }
     ensures { λ _. ⌜ now (w .exit) ≡ put (now (w .entry)) 4 (jobsWords (jobs .jobs)) ⌝ }
 {
@@ -67,7 +67,7 @@ fn put_jobs(w: &mut [u32], jobs: Jobs)
     }
 }
 
-fn put_use(w: &mut [u32], at: usize, u: Use)
+pub fn put_use(w: &mut [u32], at: usize, u: Use)
     requires { ⌜ at + 3 ≤ length (now w) ⌝ }
     ensures { λ _. ⌜ now (w .exit) ≡ put (now (w .entry)) at (useWords u) ⌝ }
 {
@@ -76,7 +76,8 @@ fn put_use(w: &mut [u32], at: usize, u: Use)
 
 fn put_uses(w: &mut [u32], at: usize, line: Line)
     requires { ⌜ at + 96 ≤ length (now w) ⌝ }
-    ensures { λ _. ⌜ now (w .exit) ≡ put (now (w .entry)) at (usesWords (line .uses)) ⌝ }
+    ensures words { λ _. ⌜ now (w .exit) ≡ put (now (w .entry)) at (usesWords (line .uses)) ⌝ }
+    ensures array { λ _. ⌜ length (line .uses) ≡ 32 ⌝ }
 {
     for k in 0..32 {
         let u = line.uses[k];
@@ -86,7 +87,8 @@ fn put_uses(w: &mut [u32], at: usize, line: Line)
 
 fn put_line(w: &mut [u32], at: usize, line: Line)
     requires { ⌜ at + 97 ≤ length (now w) ⌝ }
-    ensures { λ _. ⌜ now (w .exit) ≡ put (now (w .entry)) at (lineWords line) ⌝ }
+    ensures words { λ _. ⌜ now (w .exit) ≡ put (now (w .entry)) at (lineWords line) ⌝ }
+    ensures array { λ _. ⌜ length (line .uses) ≡ 32 ⌝ }
 {
     w[at] = counted(line.count);
     put_uses(w, at + 1, line);
@@ -94,7 +96,8 @@ fn put_line(w: &mut [u32], at: usize, line: Line)
 
 fn put_lines(w: &mut [u32], lines: [Line; 16])
     requires { ⌜ 1604 ≤ length (now w) ⌝ }
-    ensures { λ _. ⌜ now (w .exit) ≡ put (now (w .entry)) 52 (linesWords lines) ⌝ }
+    ensures words { λ _. ⌜ now (w .exit) ≡ put (now (w .entry)) 52 (linesWords lines) ⌝ }
+    ensures arrays { λ _. ⌜ ((k : ℕ) → k < 16 → length (getD lines k noLine .uses) ≡ 32) ⌝ }
 {
     for k in 0..16 {
         let line = lines[k];
@@ -111,24 +114,17 @@ fn put_cells(w: &mut [u32], gaps: [u32; 4225])
     }
 }
 
-// The words of a frame over the first 1,604; the words behind them stay.
-pub fn write_frame(f: Frame, w: &mut [u32])
-    requires { ⌜ 1604 ≤ length (now w) ⌝ }
-    ensures { λ _. ⌜ now (w .exit) ≡ put (now (w .entry)) 0 (frameWords f) ⌝ }
-{
-    let jobs = f.jobs;
-    let lines = f.lines;
-    put_head(w, f.horizon, f.lead, f.clock, counted(jobs.count));
-    put_jobs(w, jobs);
-    put_lines(w, lines);
-}
-
-// All words of a board, whatever the list held.
+// All words of a board, whatever the list held. Writing walks the arrays, and so shows that they have their lengths.
 pub fn write_board(b: Board, w: &mut [u32])
     requires { ⌜ length (now w) ≡ 5829 ⌝ }
-    ensures { λ _. ⌜ now (w .exit) ≡ wordsOf b ⌝ }
+    ensures words { λ _. ⌜ now (w .exit) ≡ wordsOf b ⌝ }
+    ensures arrays { λ _. ⌜ Arrays b ⌝ }
 {
+    let jobs = b.jobs;
+    let lines = b.lines;
     let gaps = b.gaps;
-    write_frame(frame_of(b), w);
+    put_head(w, b.horizon, b.lead, b.clock, jobs.count);
+    put_jobs(w, jobs);
+    put_lines(w, lines);
     put_cells(w, gaps);
 }

@@ -3,22 +3,22 @@
 --   other-cause                     the same for the list lent for the cause
 --   given-refused, given-accepted   the number and the words after an answer whose board comes by value
 --   answered                        of a board's length, the answer is that for the board of the words
---   gives                           the number and the words after an accepted answer whose table was lent
+--   ruled, ruled-cause              the same of a call that worked on the words, and of the list lent for the cause
 use Prim.Native.Nat.{ℕ}
-use mathlib.Core.Path.{_≡_, _∙_, ap}
+use mathlib.Core.Path.{_≡_, refl, _∙_, ap}
 use mathlib.Core.List.{List}
-use lib.ListN.{length}
+use lib.ListN.{length, set}
 use borrow.Author.Tests.{eq-eqb, ne-eqb}
 use Rattle.rulings.specs.declared.Cause.{Cause}
 use Rattle.rulings.specs.declared.Ruling.{Ruling}
 use Rattle.rulings.specs.declared.Ruling.the-variants.{Accepted, Refused}
-use Rattle.rulings.specs.Answer.{numberOf}
-use Rattle.rulings.specs.Order.{ifAccepted}
-use Rattle.sound.specs.declared.Board.{Board}
+use Rattle.rulings.specs.Answer.{numberOf, valueOf}
+use Rattle.boardwords.specs.declared.Board.{Board}
 use Rattle.board.specs.declared.Ruled.{Ruled}
 use Rattle.boardwords.specs.Words.{boardIn}
 use Rattle.boardwords.specs.Codec.{wordsOf}
-use Rattle.cabi.specs.Calls.{ruledOn, wordsAfter, causeAfter}
+use Rattle.board.specs.InWords.{wordsAfter}
+use Rattle.cabi.specs.Calls.{ruledOn, causeAfter}
 
 pub given-refused :
     (w : List ℕ) (a : Ruled) (c : Cause) (n : ℕ) → a .ruling ≡ Refused c → n ≡ numberOf (a .ruling)
@@ -30,9 +30,6 @@ pub given-accepted :
     (w x : List ℕ) (a : Ruled) → a .ruling ≡ Accepted → x ≡ wordsOf (a .board) → (0 ≡ numberOf (a .ruling)) × (x ≡ wordsAfter w a)
 unfolding wordsAfter
 given-accepted w x a e is = (rw e, rw e is)
-
-pub gives : (r : Ruling) (w x y : List ℕ) → r ≡ Accepted → y ≡ x → (0 ≡ numberOf r) × (y ≡ ifAccepted r x w)
-gives r w x y e is = (rw e, rw e is)
 
 module _ (f : Board → Ruled) (w : List ℕ) where
   pub other-length : (length w ≡ 5829 → ⊥) → (6 ≡ numberOf (ruledOn f w .ruling)) × (w ≡ wordsAfter w (ruledOn f w))
@@ -48,6 +45,16 @@ module _ (f : Board → Ruled) (w : List ℕ) where
       → x ≡ wordsAfter w a → (n ≡ numberOf (ruledOn f w .ruling)) × (x ≡ wordsAfter w (ruledOn f w))
   answered b a n x h eb ea en ex =
       let e = ruled-is b a h eb ea in (en ∙ ap (λ (r : Ruled). numberOf (r .ruling)) e, ex ∙ ap (wordsAfter w) e)
+
+  pub ruled :
+      (n : ℕ) (x : List ℕ) (r : Ruling) → length w ≡ 5829 → r ≡ f (boardIn w) .ruling → x ≡ wordsAfter w (f (boardIn w)) → n ≡ numberOf r
+      → (n ≡ numberOf (ruledOn f w .ruling)) × (x ≡ wordsAfter w (ruledOn f w))
+  ruled n x r h er ex en = answered (boardIn w) (f (boardIn w)) n x h refl refl (en ∙ ap numberOf er) ex
+
+  pub ruled-cause :
+      (v : ℕ) (l x : List ℕ) (r : Ruling) → length w ≡ 5829 → r ≡ f (boardIn w) .ruling → v ≡ valueOf r → x ≡ set l 0 v → x ≡ causeAfter w (ruledOn f w) l
+  unfolding causeAfter ruledOn
+  ruled-cause v l x r h er ev ex = rw (eq-eqb (length w) 5829 h) (ex ∙ ap (set l 0) (ev ∙ ap valueOf er))
 
   pub other-cause : (l : List ℕ) → (length w ≡ 5829 → ⊥) → l ≡ causeAfter w (ruledOn f w) l
   unfolding causeAfter

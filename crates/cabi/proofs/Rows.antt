@@ -2,10 +2,11 @@
 --   put-row-four                        a row's words stored one by one
 --   row-turn                            a loop's turn
 --   told-unsound, told-short, told-rows the answer and the list after it
+--   rows-lent                           rows of the words' jobs and of their table as it is lent: those of their board
 --   other-rows, lent-rows               words of another length than a board's, and of a board's length
 --   report-is                           the ruling is that of a report into as many rows as the words have room for
 use Prim.Native.Nat.{ℕ, suc, _+_, _*_, _<_, _≤_}
-use mathlib.Core.Path.{_≡_, refl, sym, _∙_, ap}
+use mathlib.Core.Path.{_≡_, refl, sym, _∙_, ap, ap₂}
 use mathlib.Core.Bool.{Bool, true, false, cond, not}
 use mathlib.Core.List.{List, [], _∷_}
 use lib.ListN.{length, getD, set}
@@ -16,17 +17,19 @@ use native.Mathlib.Omega.{arith}
 use Rattle.rulings.specs.declared.Ruling.the-variants.{Accepted}
 use Rattle.rulings.specs.Answer.{numberOf}
 use Rattle.plain.specs.Plain.{total}
+use Rattle.lines.specs.declared.Jobs.{Jobs}
 use Rattle.lines.specs.Held.{jobsOf}
-use Rattle.sound.specs.declared.Board.{Board}
+use Rattle.boardwords.specs.declared.Board.{Board}
 use Rattle.sound.specs.Sound.{sound}
 use Rattle.board.specs.declared.Ruled.{Ruled}
 use Rattle.board.specs.Calls.{refusal}
 use Rattle.report.specs.declared.Row.{Row}
-use Rattle.report.specs.Rows.{Report, rowsOf, noRow, laid, reported}
+use Rattle.report.specs.Rows.{Report, rowsIn, rowsOf, noRow, laid, reported}
 use Rattle.report.proofs.Laws.{length-rows}
-use Rattle.boardwords.specs.Words.{boardIn}
+use Rattle.boardwords.specs.Words.{wordIn, heldJobs, boardIn}
 use Rattle.boardwords.specs.Codec.{joined, put}
 use Rattle.cabi.specs.Calls.{ruledOn, rowWords, rowsWords, reportRuled, rowsAfter}
+use Rattle.boardwords.proofs.Lent.{lentTable, cells-lent}
 use Rattle.boardwords.proofs.Put.{put-turn}
 
 pub put-row-four :
@@ -66,6 +69,14 @@ module _ (b : Board) (m : ℕ) (w : List ℕ) where
         let long = le-ltb m (4 * length (rowsOf b)) (omega (arith, as-many)) in (rw (e, long), rw (e, long, as-many) ex)
 
 -- ---- the words of the board
+
+-- jobs that were read from the words, and their table as it is lent
+pub rows-lent :
+    (w : List ℕ) (jobs : Jobs) (l x : List ℕ) (n : ℕ) → length w ≡ 5829 → jobs ≡ heldJobs (wordIn w)
+    → x ≡ put l 0 (joined (λ k. rowWords (getD (rowsIn (lentTable w) (jobsOf jobs)) k noRow)) n)
+    → x ≡ put l 0 (joined (λ k. rowWords (getD (rowsOf (boardIn w)) k noRow)) n)
+rows-lent w jobs l x n len ej ex =
+    ex ∙ ap₂ (λ (t : List ℕ) (j : Jobs). put l 0 (joined (λ k. rowWords (getD (rowsIn t (jobsOf j)) k noRow)) n)) (cells-lent w len) ej
 
 module _ (f : Board → Ruled) (w l : List ℕ) where
   pub other-rows : (length w ≡ 5829 → ⊥) → (6 ≡ numberOf (ruledOn f w .ruling)) × (l ≡ rowsAfter (ruledOn f w) l)

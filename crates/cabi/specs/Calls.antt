@@ -1,6 +1,5 @@
 -- The calls on a board that is lent as words.
 --   ruledOn f w       the answer f gives for the board of the words w; 6 where they are not as many as a board has
---   wordsAfter w r    the words after the answer r: those of its board where accepted, the words that came where refused
 --   causeAfter w r l  the list l lent for the cause after the answer r: its first word, where it has one, is the value, or 0 where there is
 --                     none; as it came where w is no board's length
 --   reportRuled b m   the answer to a report into a list of m words: 6, "The list is shorter than the rows." (22), or accepted; the board stays
@@ -15,20 +14,17 @@ use lib.Dec.{eqb, ltb}
 use Rattle.rulings.specs.declared.Ruling.the-variants.{Accepted}
 use Rattle.rulings.specs.Answer.{valueOf}
 use Rattle.rulings.specs.Order.{ifAccepted}
-use Rattle.sound.specs.declared.Board.{Board}
+use Rattle.boardwords.specs.declared.Board.{Board}
 use Rattle.board.specs.declared.Ruled.{Ruled}
 use Rattle.board.specs.Calls.{refusal}
 use Rattle.sound.specs.Sound.{sound}
 use Rattle.report.specs.declared.Row.{Row}
 use Rattle.report.specs.Rows.{rowsOf, noRow}
 use Rattle.boardwords.specs.Words.{boardIn}
-use Rattle.boardwords.specs.Codec.{wordsOf, joined, put}
+use Rattle.boardwords.specs.Codec.{joined, put}
 
 unfoldable pub ruledOn : (Board → Ruled) → List ℕ → Ruled
 ruledOn f w = cond (eqb (length w) 5829) (f (boardIn w)) (refusal (boardIn w) 6)
-
-unfoldable pub wordsAfter : List ℕ → Ruled → List ℕ
-wordsAfter w r = ifAccepted (r .ruling) (wordsOf (r .board)) w
 
 unfoldable pub causeAfter : List ℕ → Ruled → List ℕ → List ℕ
 causeAfter w r l = cond (eqb (length w) 5829) (set l 0 (valueOf (r .ruling))) l

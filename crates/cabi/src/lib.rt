@@ -1,20 +1,16 @@
 // The board's calls from C (include/snipefeather.h), on a board that is lent as its words. Words that are not as many as a board has are
-// refused with 6, and nothing is written. The frame, the first 1,604 words, is read and written by value; the gap table behind it is worked on
-// where it lies.
+// refused with 6, and nothing is written. The words are worked on where they lie.
 // It may use board, report and boardwords, and decides nothing but the number of words.
 mod reporting; // the rows of a board written as words
 
-use board::Framed;
 use board::Settings;
-use board::clock_on;
+use board::clock_in;
 use board::fresh;
-use board::plan_on;
-use board::retire_on;
-use board::send_on;
+use board::plan_in;
+use board::retire_in;
+use board::send_in;
 use boardwords::BOARD_WORDS;
-use boardwords::read_frame;
 use boardwords::write_board;
-use boardwords::write_frame;
 use reporting::tell;
 use rulings::Ruling;
 use rulings::number;
@@ -22,26 +18,10 @@ use rulings::value;
 ghost use mathlib.Core.Path.{_≡_};
 ghost use lib.ListN.{length, set};
 ghost use Rattle.rulings.specs.Answer.{numberOf};
-ghost use Rattle.rulings.specs.Order.{ifAccepted};
 ghost use Rattle.board.specs.Boards.{freshRuled};
 ghost use Rattle.board.specs.Calls.{planned, sent, clocked, retired};
-ghost use Rattle.boardwords.specs.Codec.{frameWords, put};
-ghost use Rattle.cabi.specs.Calls.{ruledOn, wordsAfter, causeAfter, reportRuled, rowsAfter};
-
-// The ruling's number; the frame is written where accepted. The table has been worked on where it lies, behind the frame.
-fn give(answer: Framed, w: &mut [u32]) -> u32
-    requires { ⌜ length (now w) ≡ 5829 ⌝ }
-    ensures number { λ r. ⌜ r ≡ numberOf (answer .ruling) ⌝ }
-    ensures words { λ _. ⌜ now (w .exit) ≡ ifAccepted (answer .ruling) (put (now (w .entry)) 0 (frameWords (answer .frame))) (now (w .entry)) ⌝ }
-{
-    let ruling = answer.ruling;
-    if let Ruling::Refused(_) = ruling {
-        return number(ruling);
-    }
-    let after = answer.frame;
-    write_frame(after, w);
-    0
-}
+ghost use Rattle.board.specs.InWords.{wordsAfter};
+ghost use Rattle.cabi.specs.Calls.{ruledOn, causeAfter, reportRuled, rowsAfter};
 
 // The value is written into the first word, where there is one.
 fn put_cause(cause: &mut [u32], v: u32)
@@ -81,11 +61,9 @@ pub extern "C" fn sf_plan(board: &mut [u32], plant: &[u8], offer: &[u8], cause: 
     if board.len() != BOARD_WORDS {
         return 6;
     }
-    let frame = read_frame(board);
-    let answer = plan_on(frame, &mut board[1604..], plant, offer);
-    let ruling = answer.ruling;
+    let ruling = plan_in(board, plant, offer);
     put_cause(cause, value(ruling));
-    give(answer, board)
+    number(ruling)
 }
 
 // 6 and 18, or the board with the unsent jobs up to the place sent.
@@ -97,9 +75,7 @@ pub extern "C" fn sf_send(board: &mut [u32], place: u32) -> u32
     if board.len() != BOARD_WORDS {
         return 6;
     }
-    let frame = read_frame(board);
-    let answer = send_on(frame, &mut board[1604..], place);
-    give(answer, board)
+    number(send_in(board, place))
 }
 
 // 6, 19 and 20, or the board with its clock moved.
@@ -111,9 +87,7 @@ pub extern "C" fn sf_clock(board: &mut [u32], c: u32) -> u32
     if board.len() != BOARD_WORDS {
         return 6;
     }
-    let frame = read_frame(board);
-    let answer = clock_on(frame, &mut board[1604..], c);
-    give(answer, board)
+    number(clock_in(board, c))
 }
 
 // 6 and 21, or the board without its oldest job.
@@ -125,9 +99,7 @@ pub extern "C" fn sf_retire(board: &mut [u32]) -> u32
     if board.len() != BOARD_WORDS {
         return 6;
     }
-    let frame = read_frame(board);
-    let answer = retire_on(frame, &mut board[1604..]);
-    give(answer, board)
+    number(retire_in(board))
 }
 
 // 6, 22, or the rows of the board, four words each: job, point, earliest, latest. The words of the board stay as they are.
@@ -139,6 +111,5 @@ pub extern "C" fn sf_report(board: &[u32], rows: &mut [u32]) -> u32
     if board.len() != BOARD_WORDS {
         return 6;
     }
-    let frame = read_frame(board);
-    tell(frame, &board[1604..], rows)
+    tell(board, rows)
 }

@@ -1,17 +1,17 @@
-// The rows of a board written as words, four each, from its frame and its table.
+// The rows of a board written as words, four each, from the words of the board.
+use boardwords::read_jobs;
 use lines::Jobs;
 use lines::points;
 use report::Row;
 use report::row_at;
-use sound::Frame;
-use sound::is_sound_on;
+use sound::is_sound_in;
 ghost use mathlib.Core.Path.{_≡_};
 ghost use Prim.Native.Nat.{_+_, _*_, _≤_};
 ghost use lib.ListN.{length, getD};
 ghost use Rattle.rulings.specs.Answer.{numberOf};
 ghost use Rattle.lines.specs.Held.{jobsOf};
-ghost use Rattle.sound.specs.Framed.{whole};
 ghost use Rattle.report.specs.Rows.{noRow, rowsIn};
+ghost use Rattle.boardwords.specs.Words.{boardIn};
 ghost use Rattle.boardwords.specs.Codec.{joined, put};
 ghost use Rattle.cabi.specs.Calls.{rowWords, reportRuled, rowsAfter};
 
@@ -37,19 +37,19 @@ fn put_rows(w: &mut [u32], t: &[u32], jobs: Jobs, n: usize)
 }
 
 // 6, 22, or 0 and the rows from the first word on; the words past them stay as they were.
-pub fn tell(f: Frame, t: &[u32], rows: &mut [u32]) -> u32
-    requires { ⌜ length (now t) ≡ 4225 ⌝ }
-    ensures number { λ r. ⌜ r ≡ numberOf (reportRuled (whole f (now (t .entry))) (length (now (rows .entry))) .ruling) ⌝ }
-    ensures rows { λ _. ⌜ now (rows .exit) ≡ rowsAfter (reportRuled (whole f (now (t .entry))) (length (now (rows .entry)))) (now (rows .entry)) ⌝ }
+pub fn tell(w: &[u32], rows: &mut [u32]) -> u32
+    requires { ⌜ length (now w) ≡ 5829 ⌝ }
+    ensures number { λ r. ⌜ r ≡ numberOf (reportRuled (boardIn (now (w .entry))) (length (now (rows .entry))) .ruling) ⌝ }
+    ensures rows { λ _. ⌜ now (rows .exit) ≡ rowsAfter (reportRuled (boardIn (now (w .entry))) (length (now (rows .entry)))) (now (rows .entry)) ⌝ }
 {
-    if !is_sound_on(f, t) {
+    let jobs = read_jobs(w);
+    if !is_sound_in(w, jobs) {
         return 6;
     }
-    let jobs = f.jobs;
     let n = points(jobs) as usize;
     if rows.len() < 4 * n {
         return 22;
     }
-    put_rows(rows, t, jobs, n);
+    put_rows(rows, &w[1604..], jobs, n);
     0
 }

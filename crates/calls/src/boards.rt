@@ -8,20 +8,20 @@ use crate::reports::report_turn;
 use crate::vocabulary::Word;
 use board::Ruled;
 use board::Settings;
-use board::clock;
 use board::fresh;
-use board::plan;
-use board::retire;
-use board::send;
 use boardwords::BOARD_BYTES;
+use boardwords::Board;
 use boardwords::decode;
-use sound::Board;
 use text::Decoded;
 use text::Number;
 use text::decode_hex;
 use text::find;
 use text::least;
 use text::read_number;
+use values::clock;
+use values::plan;
+use values::retire;
+use values::send;
 
 // What a line leaves of the board, and the answer.
 pub struct Turn {

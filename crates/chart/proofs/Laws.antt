@@ -33,7 +33,7 @@ use Rattle.lists.specs.All.{All}
 use Rattle.lists.proofs.All.{all-at, all-get, all-map}
 use Rattle.lists.proofs.AllBelow.{both-true, allBelow-to}
 use Rattle.stn.specs.Table.{Table, earliest}
-use Rattle.sound.specs.declared.Board.{Board}
+use Rattle.boardwords.specs.declared.Board.{Board}
 use Rattle.sound.specs.Sound.{Sound, SizedJob, SizedUse, pointsOf}
 use Rattle.chart.specs.declared.scale.Scale.{Scale}
 use Rattle.chart.specs.Chart.{

@@ -15,7 +15,7 @@ use Rattle.lines.specs.Held.{lineOf, noLine}
 use Rattle.lists.specs.All.{All}
 use Rattle.stn.specs.Table.{Table, earliest}
 use Rattle.gaps.specs.Cells.{tableOf}
-use Rattle.sound.specs.declared.Board.{Board}
+use Rattle.boardwords.specs.declared.Board.{Board}
 use Rattle.sound.specs.Sound.{Sound, SizedUse, pointsOf}
 use Rattle.chart.specs.Chart.{beginOf, endOf, firstFit, fits, lastEnd, lastTime, leftOf, linesEnd, rightOf, scaleOf, widthOf, widths}
 

@@ -3,6 +3,7 @@
 --   relaxed-same     a row that no way across the rule can shorten
 --   added-length     the list keeps its length
 --   added-agree      the first n points of the list hold stn's table with the rule added;  added-rest: else it is as it was
+--   added-past       every row past them too
 --   agrees-whole     a rule that agrees with a closed table cuts no way off
 --   added-closed     and the table with it is closed again
 --   added-known      a rule that every timetable of a closed table keeps already changes no cell
@@ -19,15 +20,15 @@ use Rattle.stn.proofs.Add.{add-closed}
 use Rattle.stn.proofs.Agree.{agree-closed}
 use Rattle.stn.specs.Table.{bias, Table, Closed, Agrees, Agree, add}
 use Rattle.gaps.specs.Cells.{cell, tableOf, rowOf, addedCell, relaxed, added, Usable, Whole}
-use Rattle.gaps.proofs.Overlaid.{row-next, overlaid-length, overlaid-agree, overlaid-rest, overlaid-self, overlaid-same}
+use Rattle.gaps.proofs.Overlaid.{row-next, overlaid-length, overlaid-agree, overlaid-rest, overlaid-past, overlaid-self, overlaid-same}
 
 pub record Turn (l : List ℕ) (n : ℕ) (r : Rule) (early late : ℕ) (row m : List ℕ) (a : ℕ) : Type 0 where
   -- what relaxing row a requires: sums stay small, and no way is cut off
   pub via-small : cell m a late ≤ bias + bias
   pub row-small : (b : ℕ) → b < n → getD row b 0 ≤ bias + bias
   pub row-whole : (b : ℕ) → b < n → bias + r .more ≤ cell m a late + r .slack + getD row b 0
+  pub cells-small : (b : ℕ) → b < n → cell m a b ≤ bias + bias
   -- and no cell of it exceeds the way by the early point
-  pub direct-small : cell m a early ≤ bias + bias
   pub row-behind : (b : ℕ) → b < n → cell m a b + bias ≤ cell m a early + getD row b 0
   -- what it gives: one more row of the table with the rule added
   pub next :
@@ -78,7 +79,7 @@ module _
         via-small = omega (arith, via, cl .bounded a (r .late) ha (u .late-live));
         row-small = λ b hb. omega (arith, onward b hb, cl .bounded (r .early) b (u .early-live) hb);
         row-whole = λ b hb. omega (arith, via, onward b hb, whole a b ha hb);
-        direct-small = omega (arith, direct, cl .bounded a (r .early) ha (u .early-live));
+        cells-small = λ b hb. omega (arith, still b, cl .bounded a b ha hb);
         row-behind = λ b hb. omega (arith, direct, onward b hb, still b, cl .triangle a (r .early) b ha (u .early-live) hb);
         next = relaxed-next;
       }
@@ -95,6 +96,10 @@ module _ (l : List ℕ) (n : ℕ) (r : Rule) (size : length l ≡ 4225) (few : n
   pub added-rest : (a b : ℕ) → b < 65 → n ≤ a ⊎ n ≤ b → cell (added l n r) a b ≡ cell l a b
   unfolding added
   added-rest = overlaid-rest n (add r (tableOf l)) l size few
+
+  pub added-past : (k : ℕ) → n * 65 ≤ k → getD (added l n r) k 0 ≡ getD l k 0
+  unfolding added
+  added-past = overlaid-past n (add r (tableOf l)) l size few
 
   pub added-closed : Closed n (tableOf l) → r .early < n → r .late < n → Agrees r (tableOf l) → Closed n (tableOf (added l n r))
   added-closed cl x y ok =

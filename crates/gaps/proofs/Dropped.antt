@@ -1,26 +1,28 @@
 -- Points dropped from a list of cells are points dropped from its table. The points from f on are d many, and `left` are left.
 --   old-most                no old number is more than d above the new one
---   columns-dropped         a row copied in two parts is the row without the columns of the points dropped
+--   old-least               and none is below it: no cell moves up
+--   columns-dropped         a row moved in two parts, and cleared past them, is the row without the columns of the points dropped
 --   rows-next               of a list whose rows before a are written: row a is written too
+--   rest-cleared            with all past the rows that are left cleared, the points are dropped
 --   dropped-length          the list has as many cells as any
 --   dropped-agree           it holds the table of the points left;  dropped-rest: freed cells hold 0
 --   dropped-gapTable        a good table stays one
 use mathlib.Core.List.{List}
 use mathlib.Core.Logic.{_⊎_}
-use mathlib.Core.Path.{_≡_, _∙_, ap}
-use Prim.Native.Nat.{ℕ, zero, _+_, _-_, _*_, _%_, _≤_, _<_}
+use mathlib.Core.Path.{_≡_, sym, _∙_, ap}
+use Prim.Native.Nat.{ℕ, zero, _+_, _-_, _*_, _≤_, _<_}
 use native.Mathlib.Decide.{decLt}
 use native.Mathlib.Omega.{arith}
-use lib.ListN.{length, getD, replicate, length-replicate, getD-replicate}
-use Rattle.lists.proofs.Rewritten.{rewritten-length, rewritten-in, rewritten-below, rewritten-from, rewritten-is}
+use lib.ListN.{length, getD, replicate, length-replicate, getD-replicate, List·getD-eq-default}
+use Rattle.lists.proofs.Rewritten.{rewritten-length, rewritten-in, rewritten-below, rewritten-from, rewritten-is, rewritten-more, ahead}
 use Rattle.lists.specs.Loops.{rewritten}
 use Rattle.stn.specs.Table.{Closed, Agree, pick, oldNumber}
 use Rattle.stn.proofs.Agree.{agree-closed}
 use Rattle.stn.proofs.Pick.{pick-closed, old-low, old-high, old-lt}
-use Rattle.gaps.specs.Cells.{cell, tableOf, overlay, dropped}
+use Rattle.gaps.specs.Cells.{cell, tableOf, overlaid, droppedCell, dropped}
 use Rattle.gaps.specs.GapTable.{GapTable}
 use Rattle.gaps.proofs.GapTable.{gapTable-closed}
-use Rattle.gaps.proofs.Overlaid.{row-next, overlaid-length, overlaid-agree, overlaid-rest}
+use Rattle.gaps.proofs.Overlaid.{overlay-in, overlay-out, overlaid-length, overlaid-agree, overlaid-rest}
 
 pub old-most : (f d x : ℕ) → oldNumber f d x ≤ x + d
 old-most f d x = go (decLt x f)
@@ -29,76 +31,176 @@ old-most f d x = go (decLt x f)
     go (yes h) = omega (arith, old-low f d x h)
     go (no h) = omega (arith, old-high f d x (omega arith))
 
--- what place k of row a holds when the points are dropped
-abbrev keptCell : List ℕ → ℕ → ℕ → ℕ → ℕ → ℕ
-keptCell l f d a k = cell l (oldNumber f d a) (oldNumber f d (k % 65))
+pub old-least : (f d x : ℕ) → x ≤ oldNumber f d x
+old-least f d x = go (decLt x f)
+  where
+    go : Dec (x < f) → x ≤ oldNumber f d x
+    go (yes h) = omega (arith, old-low f d x h)
+    go (no h) = omega (arith, old-high f d x (omega arith))
 
--- the row m with the first f cells of the old row copied is x, and with the later ones it is y
+-- ---- in place
+
+-- what a cell holds at the end: that of the old numbers, or 0
+module _ (l : List ℕ) (f d left a b : ℕ) (small : b < 65) where
+  dropped-in : b < left → droppedCell l f d left (a * 65 + b) ≡ cell l (oldNumber f d a) (oldNumber f d b)
+  unfolding pick
+  dropped-in h = overlay-in left (pick (oldNumber f d) (tableOf l)) (replicate 4225 0) a b small h
+
+  dropped-out : a < 65 → left ≤ b → droppedCell l f d left (a * 65 + b) ≡ 0
+  dropped-out ha h =
+      overlay-out left (pick (oldNumber f d) (tableOf l)) (replicate 4225 0) a b small h
+      ∙ getD-replicate 4225 (a * 65 + b) 0 0 (omega arith)
+
+-- the row with its first f cells moved is x, with the later ones y, and with the cells past them cleared z
 pub columns-dropped :
-    (l m x y : List ℕ) (f d left a o : ℕ) → length m ≡ 4225 → f ≤ left → left + d ≤ 65 → a < left → o ≡ oldNumber f d a
-    → x ≡ rewritten (λ k. getD l (o * 65 + (k - a * 65)) 0) m (a * 65) (a * 65 + f)
-    → y ≡ rewritten (λ k. getD l (o * 65 + f + d + (k - (a * 65 + f))) 0) x (a * 65 + f) (a * 65 + f + (left - f))
-    → y ≡ rewritten (keptCell l f d a) m (a * 65) (a * 65 + left)
-columns-dropped l m x y f d left a o size le few ha eo first second =
-    rewritten-is (keptCell l f d a) m y (a * 65) (a * 65 + left) (same-y ∙ same-x) (λ k lo hi h. inside k lo hi h (decLt k (a * 65 + f)))
-    (λ k h. in-y k ∙ rewritten-below g x p (p + (left - f)) k (omega arith) ∙ in-x k ∙ rewritten-below e m (a * 65) p k h)
-    (λ k h. in-y k ∙ rewritten-from g x p (p + (left - f)) k (omega arith) ∙ in-x k ∙ rewritten-from e m (a * 65) p k (omega arith))
+    (l x y z : List ℕ) (f d left a o : ℕ) → length l ≡ 4225 → f ≤ left → left + d ≤ 65 → a < left → o ≡ oldNumber f d a
+    → x ≡ rewritten (λ k. getD l (o * 65 + (k - a * 65)) 0) l (a * 65) (a * 65 + f)
+    → y ≡ rewritten (λ k. getD x (o * 65 + f + d + (k - (a * 65 + f))) 0) x (a * 65 + f) (a * 65 + f + (left - f))
+    → z ≡ rewritten (λ k. 0) y (a * 65 + left) (a * 65 + left + (65 - left))
+    → z ≡ rewritten (droppedCell l f d left) l (a * 65) ((a + 1) * 65)
+columns-dropped l x y z f d left a o size le few ha eo first second third =
+    rewritten-is (droppedCell l f d left) l z (a * 65) ((a + 1) * 65) (same-z ∙ same-y ∙ same-x) inside
+    (λ k h. z-below k (omega arith) ∙ y-below k (omega arith) ∙ in-x k ∙ rewritten-below e l (a * 65) p k h)
+    (λ k h.
+    in-z k ∙ rewritten-from nil y q (q + (65 - left)) k (omega arith) ∙ in-y k ∙ rewritten-from g x p (p + (left - f)) k (omega arith) ∙ x-from k (omega arith))
   where
     p : ℕ
     p = a * 65 + f
+
+    q : ℕ
+    q = a * 65 + left
 
     e : ℕ → ℕ
     e k = getD l (o * 65 + (k - a * 65)) 0
 
     g : ℕ → ℕ
-    g k = getD l (o * 65 + f + d + (k - (a * 65 + f))) 0
+    g k = getD x (o * 65 + f + d + (k - (a * 65 + f))) 0
 
-    same-x : length x ≡ length m
-    same-x = ap length first ∙ rewritten-length e m (a * 65) p
+    nil : ℕ → ℕ
+    nil k = 0
+
+    same-x : length x ≡ length l
+    same-x = ap length first ∙ rewritten-length e l (a * 65) p
 
     same-y : length y ≡ length x
     same-y = ap length second ∙ rewritten-length g x p (p + (left - f))
 
-    in-x : (k : ℕ) → getD x k 0 ≡ getD (rewritten e m (a * 65) p) k 0
-    in-x k = ap (λ (q : List ℕ). getD q k 0) first
+    same-z : length z ≡ length y
+    same-z = ap length third ∙ rewritten-length nil y q (q + (65 - left))
+
+    in-x : (k : ℕ) → getD x k 0 ≡ getD (rewritten e l (a * 65) p) k 0
+    in-x k = ap (λ (w : List ℕ). getD w k 0) first
 
     in-y : (k : ℕ) → getD y k 0 ≡ getD (rewritten g x p (p + (left - f))) k 0
-    in-y k = ap (λ (q : List ℕ). getD q k 0) second
+    in-y k = ap (λ (w : List ℕ). getD w k 0) second
 
-    inside : (k : ℕ) → a * 65 ≤ k → k < a * 65 + left → k < length m → Dec (k < a * 65 + f) → getD y k 0 ≡ keptCell l f d a k
-    inside k lo hi h (yes lt) =
-        in-y k
-        ∙ rewritten-below g x p (p + (left - f)) k lt
-        ∙ in-x k
-        ∙ rewritten-in e m (a * 65) p k lo lt h
-        ∙ ap (λ (i : ℕ). getD l i 0) (omega (arith, eo, old-low f d (k % 65) (omega arith)))
-    inside k lo hi h (no ge) =
-        in-y k
-        ∙ rewritten-in g x p (p + (left - f)) k (omega arith) (omega arith) (omega (arith, same-x))
-        ∙ ap (λ (i : ℕ). getD l i 0) (omega (arith, eo, old-high f d (k % 65) (omega arith)))
+    in-z : (k : ℕ) → getD z k 0 ≡ getD (rewritten nil y q (q + (65 - left))) k 0
+    in-z k = ap (λ (w : List ℕ). getD w k 0) third
 
+    z-below : (k : ℕ) → k < q → getD z k 0 ≡ getD y k 0
+    z-below k h = in-z k ∙ rewritten-below nil y q (q + (65 - left)) k h
+
+    y-below : (k : ℕ) → k < p → getD y k 0 ≡ getD x k 0
+    y-below k h = in-y k ∙ rewritten-below g x p (p + (left - f)) k h
+
+    x-from : (k : ℕ) → p ≤ k → getD x k 0 ≡ getD l k 0
+    x-from k h = in-x k ∙ rewritten-from e l (a * 65) p k h
+
+    one : (b : ℕ) → b < 65 → Dec (b < f) → Dec (b < left) → cell z a b ≡ droppedCell l f d left (a * 65 + b)
+    one b small (yes lt) near =
+        z-below (a * 65 + b) (omega arith)
+        ∙ y-below (a * 65 + b) (omega arith)
+        ∙ in-x (a * 65 + b)
+        ∙ rewritten-in e l (a * 65) p (a * 65 + b) (omega arith) (omega arith) (omega arith)
+        ∙ ap (λ (i : ℕ). getD l i 0) (omega (arith, eo, old-low f d b lt))
+        ∙ sym (dropped-in l f d left a b small (omega arith))
+    one b small (no ge) (yes lt) =
+        z-below (a * 65 + b) (omega arith)
+        ∙ in-y (a * 65 + b)
+        ∙ rewritten-in g x p (p + (left - f)) (a * 65 + b) (omega arith) (omega arith) (omega (arith, same-x))
+        ∙ x-from (o * 65 + f + d + (a * 65 + b - (a * 65 + f))) (omega (arith, eo, old-least f d a))
+        ∙ ap (λ (i : ℕ). getD l i 0) (omega (arith, eo, old-high f d b (omega arith)))
+        ∙ sym (dropped-in l f d left a b small lt)
+    one b small (no ge) (no past) =
+        in-z (a * 65 + b)
+        ∙ rewritten-in nil y q (q + (65 - left)) (a * 65 + b) (omega arith) (omega arith) (omega (arith, same-x, same-y))
+        ∙ sym (dropped-out l f d left a b small (omega arith) (omega arith))
+
+    inside : (k : ℕ) → a * 65 ≤ k → k < (a + 1) * 65 → k < length l → getD z k 0 ≡ droppedCell l f d left k
+    inside k lo hi h =
+        let place : a * 65 + (k - a * 65) ≡ k = omega arith in
+        rw (← place) (one (k - a * 65) (omega arith) (decLt (k - a * 65) f) (decLt (k - a * 65) left))
+
+-- of a list m whose rows before a are written, the cells that row a comes from are still those of l
 pub rows-next :
-    (l z m x : List ℕ) (f d left a : ℕ) → length z ≡ 4225 → left + d ≤ 65 → a < left
-    → m ≡ rewritten (overlay left (pick (oldNumber f d) (tableOf l)) z) z 0 (a * 65)
-    → x ≡ rewritten (keptCell l f d a) m (a * 65) (a * 65 + left)
-    → x ≡ rewritten (overlay left (pick (oldNumber f d) (tableOf l)) z) z 0 ((a + 1) * 65)
-unfolding pick
-rows-next l z m x f d left a size few ha is out =
-    row-next left (pick (oldNumber f d) (tableOf l)) z size (omega arith) m x a (omega arith) is
-    (ap length out ∙ rewritten-length h m (a * 65) (a * 65 + left) ∙ long) one
-    (λ k lt. rw out (rewritten-below h m (a * 65) (a * 65 + left) k lt)) (λ k ge. rw out (rewritten-from h m (a * 65) (a * 65 + left) k ge))
+    (l m x : List ℕ) (f d left a : ℕ) → length l ≡ 4225 → left + d ≤ 65 → a < left
+    → m ≡ rewritten (droppedCell l f d left) l 0 (a * 65) → x ≡ rewritten (droppedCell m f d left) m (a * 65) ((a + 1) * 65)
+    → x ≡ rewritten (droppedCell l f d left) l 0 ((a + 1) * 65)
+rows-next l m x f d left a size few ha is out =
+    rewritten-more (droppedCell l f d left) l m 0 (a * 65) is x ((a + 1) * 65) (omega arith) (omega arith) (same ∙ long) inside
+    (λ k h. rw out (rewritten-below now m (a * 65) ((a + 1) * 65) k h)) (λ k h. rw out (rewritten-from now m (a * 65) ((a + 1) * 65) k h))
   where
+    now : ℕ → ℕ
+    now = droppedCell m f d left
+
+    long : length m ≡ length l
+    long = ap length is ∙ rewritten-length (droppedCell l f d left) l 0 (a * 65)
+
+    same : length x ≡ length m
+    same = ap length out ∙ rewritten-length now m (a * 65) ((a + 1) * 65)
+
+    one : (b : ℕ) → b < 65 → Dec (b < left) → droppedCell m f d left (a * 65 + b) ≡ droppedCell l f d left (a * 65 + b)
+    one b small (yes h) =
+        dropped-in m f d left a b small h
+        ∙ ahead (droppedCell l f d left) l m 0 (a * 65) is (oldNumber f d a * 65 + oldNumber f d b) (omega (arith, old-least f d a))
+        ∙ sym (dropped-in l f d left a b small h)
+    one b small (no h) = dropped-out m f d left a b small (omega arith) (omega arith) ∙ sym (dropped-out l f d left a b small (omega arith) (omega arith))
+
+    inside : (k : ℕ) → a * 65 ≤ k → k < (a + 1) * 65 → k < length l → getD x k 0 ≡ droppedCell l f d left k
+    inside k lo hi h =
+        let place : a * 65 + (k - a * 65) ≡ k = omega arith in
+        ap (λ (w : List ℕ). getD w k 0) out
+        ∙ rewritten-in now m (a * 65) ((a + 1) * 65) k lo hi (omega (arith, long))
+        ∙ rw (← place) (one (k - a * 65) (omega arith) (decLt (k - a * 65) left))
+
+-- the rows that are left are written in m, and all past them is cleared in x
+pub rest-cleared :
+    (l m x : List ℕ) (f d n : ℕ) → length l ≡ 4225 → n ≤ 65 → m ≡ rewritten (droppedCell l f d (n - d)) l 0 ((n - d) * 65)
+    → x ≡ rewritten (λ k. 0) m ((n - d) * 65) ((n - d) * 65 + (4225 - (n - d) * 65)) → x ≡ dropped l f d n
+unfolding dropped overlaid
+rest-cleared l m x f d n size few is out =
+    rewritten-is h (replicate 4225 0) x 0 q (same ∙ long ∙ size ∙ sym (length-replicate 4225 zero))
+    (λ k lo hi lt. in-x k ∙ rewritten-below nil m q e k hi ∙ ap (λ (w : List ℕ). getD w k 0) is ∙ rewritten-in h l 0 q k lo hi (omega (arith, length-replicate 4225 zero)))
+    (λ k lt. absurd (omega arith)) (λ k ge. past k ge (decLt k 4225))
+  where
+    q : ℕ
+    q = (n - d) * 65
+
+    e : ℕ
+    e = (n - d) * 65 + (4225 - (n - d) * 65)
+
     h : ℕ → ℕ
-    h = keptCell l f d a
+    h = droppedCell l f d (n - d)
 
-    long : length m ≡ 4225
-    long = ap length is ∙ rewritten-length _ z 0 (a * 65) ∙ size
+    nil : ℕ → ℕ
+    nil k = 0
 
-    one : (b : ℕ) → b < left → cell x a b ≡ cell l (oldNumber f d a) (oldNumber f d b)
-    one b hb =
-        let column : (a * 65 + b) % 65 ≡ b = omega arith in
-        rw out
-        (rewritten-in h m (a * 65) (a * 65 + left) (a * 65 + b) (omega arith) (omega arith) (omega (arith, long)) ∙ rw column)
+    long : length m ≡ length l
+    long = ap length is ∙ rewritten-length h l 0 q
+
+    same : length x ≡ length m
+    same = ap length out ∙ rewritten-length nil m q e
+
+    in-x : (k : ℕ) → getD x k 0 ≡ getD (rewritten nil m q e) k 0
+    in-x k = ap (λ (w : List ℕ). getD w k 0) out
+
+    past : (k : ℕ) → q ≤ k → Dec (k < 4225) → getD x k 0 ≡ getD (replicate 4225 0) k 0
+    past k ge (yes lt) = in-x k ∙ rewritten-in nil m q e k ge (omega arith) (omega (arith, long)) ∙ sym (getD-replicate 4225 k 0 0 lt)
+    past k ge (no far) =
+        List·getD-eq-default x 0 {n = k} (omega (arith, same, long))
+        ∙ sym (List·getD-eq-default (replicate 4225 0) 0 {n = k} (omega (arith, length-replicate 4225 zero)))
+
+-- ---- what the table is then
 
 module _ (l : List ℕ) (f d n : ℕ) (few : n ≤ 65) where
   zeros : length (replicate 4225 zero) ≡ 4225

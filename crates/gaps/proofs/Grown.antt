@@ -4,7 +4,7 @@
 --   grown-none, -next   no point yet; one point more
 --   grown-column        no gap to the origin is larger than before, so that sums stay small
 --   grown-length        the list keeps its length
---   grown-agree         its first n + m points hold stn's table with m more points;  grown-rest: else it is as it was
+--   grown-agree         its first n + m points hold stn's table with m more points;  grown-rest: else it is as it was;  grown-past: every row past them too
 use mathlib.Core.List.{List}
 use mathlib.Core.Logic.{_⊎_}
 use mathlib.Core.Path.{_≡_, sym, _∙_, ap}
@@ -20,7 +20,7 @@ use Rattle.lists.specs.Loops.{rewritten}
 use Rattle.stn.specs.Table.{bias, Table, Agree, grow, growAll}
 use Rattle.gaps.specs.Cells.{cell, tableOf, hungCell, overlaid, grown}
 use Rattle.gaps.proofs.Overlaid.{origin-row, row-next, overlay-in, overlaid-length, overlaid-agree, overlaid-rest}
-use Rattle.gaps.proofs.Overlaid.{overlaid-self, overlaid-same, overlaid-twice}
+use Rattle.gaps.proofs.Overlaid.{overlaid-past, overlaid-self, overlaid-same, overlaid-twice}
 
 -- ---- one point
 
@@ -141,6 +141,10 @@ module _ (l : List ℕ) (n k H : ℕ) (size : length l ≡ 4225) (few : n + k �
   pub grown-rest : (a b : ℕ) → b < 65 → n + k ≤ a ⊎ n + k ≤ b → cell (grown l n k H) a b ≡ cell l a b
   unfolding grown
   grown-rest = overlaid-rest (n + k) (growAll H n k (tableOf l)) l size few
+
+  pub grown-past : (at : ℕ) → (n + k) * 65 ≤ at → getD (grown l n k H) at 0 ≡ getD l at 0
+  unfolding grown
+  grown-past = overlaid-past (n + k) (growAll H n k (tableOf l)) l size few
 
   pub grown-column : (u : ℕ) → 0 < n → ((i : ℕ) → i < n → cell l i 0 ≤ u) → (i : ℕ) → i < n + k → cell (grown l n k H) i 0 ≤ u
   grown-column u z h i hi = omega (arith, grown-agree i 0 hi (omega arith), growAll-column H n k u (tableOf l) z h i hi)

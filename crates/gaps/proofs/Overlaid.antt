@@ -5,7 +5,7 @@
 --   row-next                    of a list whose rows before a are written: row a is written too
 --   overlaid-length             the list keeps its length
 --   overlaid-agree              it holds the table that was written, as far as its first n points
---   overlaid-rest               and else what it held
+--   overlaid-rest               and else what it held;  overlaid-past: so in every row past them
 --   overlaid-is                 the list of which this holds is the overlaid one
 --   overlaid-self, -same, -twice   its own table written; tables that agree; a table written over another
 use mathlib.Core.List.{List}
@@ -86,6 +86,10 @@ module _ (n : ℕ) (c : Table) (l : List ℕ) (size : length l ≡ 4225) (few : 
       go (yes h) (inr p) =
           rewritten-in (overlay n c l) l 0 (n * 65) (a * 65 + b) (omega arith) (omega arith) (omega arith)
           ∙ overlay-out n c l a b small p
+
+  pub overlaid-past : (k : ℕ) → n * 65 ≤ k → getD (overlaid n c l) k 0 ≡ getD l k 0
+  unfolding overlaid
+  overlaid-past k h = rewritten-from (overlay n c l) l 0 (n * 65) k h
 
   pub overlaid-is :
       (x : List ℕ) → length x ≡ 4225 → Agree n (tableOf x) c → ((a b : ℕ) → a < 65 → b < 65 → Past n a b → cell x a b ≡ cell l a b)

@@ -10,7 +10,8 @@
 --   Bounded n c             no cell of the first n points is above twice the bias
 --   Whole n r c             no way from a point across the rule r to a point is cut off at 0
 --   grown l n m H           m new points, each from 0 to H, in a table of n points;  hungCell l n H k: what place k holds with the first of them
---   dropped l f m n         the m points from f on dropped from a table of n points: later points are renumbered down, and freed cells hold 0
+--   dropped l f m n         the m points from f on dropped from a table of n points: later points are renumbered down, and freed cells hold 0;
+--                           droppedCell l f m left k: what place k holds when `left` are left
 use mathlib.Core.Bool.{cond}
 use mathlib.Core.List.{List}
 use Prim.Native.Nat.{ℕ, _+_, _-_, _*_, _/_, _%_, _≤_, _<_, min}
@@ -67,6 +68,9 @@ hungCell l n H = overlay (n + 1) (grow H n (tableOf l)) l
 
 unfoldable pub grown : List ℕ → ℕ → ℕ → ℕ → List ℕ
 grown l n m H = overlaid (n + m) (growAll H n m (tableOf l)) l
+
+abbrev pub droppedCell : List ℕ → ℕ → ℕ → ℕ → ℕ → ℕ
+droppedCell l f m left = overlay left (pick (oldNumber f m) (tableOf l)) (replicate 4225 0)
 
 unfoldable pub dropped : List ℕ → ℕ → ℕ → ℕ → List ℕ
 dropped l f m n = overlaid (n - m) (pick (oldNumber f m) (tableOf l)) (replicate 4225 0)

@@ -16,11 +16,13 @@ fn wide(x: u32) -> usize
     x as usize
 }
 
-// Inner loops call this, and have no branch of their own: so they are compiled to vectors.
+// Inner loops call this, and have no branch of their own: so they are compiled to vectors. The numbers are compared as signed ones, since plain
+// x86-64 has vectors for that alone.
 fn least(a: u32, b: u32) -> u32
+    requires { ⌜ (a < 2147483648) × (b < 2147483648) ⌝ }
     ensures { λ r. ⌜ r ≡ min a b ⌝ }
 {
-    if a < b { a } else { b }
+    if (a as i32) < (b as i32) { a } else { b }
 }
 
 // Whether some timetable of a closed table keeps the rule.
@@ -58,6 +60,7 @@ fn row_of(t: &[u32], i: usize) -> [u32; 65]
 // Row a relaxed: each cell is the least of what it was and the way that begins with `via`, goes on by `row` and is shorter by `cut`.
 fn relax(t: &mut [u32], row: &[u32; 65], a: usize, n: usize, via: u32, cut: u32)
     requires { ⌜ (length (now t) ≡ 4225) × (n ≤ 65) × (a < n) × (via ≤ 300000000) ⌝ }
+    requires { ⌜ ((b : ℕ) → b < n → cell (now t) a b ≤ bias + bias) ⌝ }
     requires { ⌜ ((b : ℕ) → b < n → getD (now row) b 0 ≤ bias + bias) ⌝ }
     requires { ⌜ ((b : ℕ) → b < n → cut ≤ via + getD (now row) b 0) ⌝ }
     ensures { λ _. ⌜ now (t .exit) ≡ rewritten (relaxed (now (t .entry)) (now (row .entry)) via cut) (now (t .entry)) (a * 65) (a * 65 + n) ⌝ }
@@ -72,7 +75,7 @@ fn relax(t: &mut [u32], row: &[u32; 65], a: usize, n: usize, via: u32, cut: u32)
 // is so to every point behind it, and the row stays as it is.
 fn relax_row(t: &mut [u32], row: &[u32; 65], a: usize, n: usize, early: usize, via: u32, cut: u32)
     requires { ⌜ (length (now t) ≡ 4225) × (n ≤ 65) × (a < n) × (early < n) × (via ≤ 300000000) × (cut ≤ 300000000) ⌝ }
-    requires { ⌜ cell (now t) a early ≤ bias + bias ⌝ }
+    requires { ⌜ ((b : ℕ) → b < n → cell (now t) a b ≤ bias + bias) ⌝ }
     requires { ⌜ ((b : ℕ) → b < n → getD (now row) b 0 ≤ bias + bias) ⌝ }
     requires { ⌜ ((b : ℕ) → b < n → cut ≤ via + getD (now row) b 0) ⌝ }
     requires { ⌜ ((b : ℕ) → b < n → cell (now t) a b + bias ≤ cell (now t) a early + getD (now row) b 0) ⌝ }

@@ -1,33 +1,35 @@
 // Cells copied.
 ghost use mathlib.Core.Path.{_≡_};
-ghost use Prim.Native.Nat.{_+_, _-_, _≤_};
+ghost use Prim.Native.Nat.{_≤_};
 ghost use lib.ListN.{length, getD};
-ghost use Rattle.lists.specs.Loops.{rewritten};
+ghost use Rattle.lists.specs.Loops.{build, rewritten};
 
-// `count` cells of t, from `from` on, copied to the places from `to` on.
-pub fn copy_cells(next: &mut [u32], to: usize, t: &[u32], from: usize, count: usize)
-    requires { ⌜ (length (now next) ≡ 4225) × (length (now t) ≡ 4225) × (to + count ≤ 4225) × (from + count ≤ 4225) ⌝ }
-    ensures { λ _. ⌜ now (next .exit) ≡ rewritten (λ k. getD (now (t .entry)) (from + (k - to)) 0) (now (next .entry)) to (to + count) ⌝ }
+// The first `count` cells of t copied to the same places of next. Neither need be a whole table.
+pub fn copy_cells(next: &mut [u32], t: &[u32], count: usize)
+    requires { ⌜ (count ≤ length (now next)) × (count ≤ length (now t)) ⌝ }
+    ensures { λ _. ⌜ now (next .exit) ≡ rewritten (λ k. getD (now (t .entry)) k 0) (now (next .entry)) 0 count ⌝ }
 {
     for k in 0..count {
-        next[to + k] = t[from + k];
+        next[k] = t[k];
     }
 }
 
-// A copy of the table.
+// A copy of the table. All cells are written, so that the compiler leaves the zeros out; where only as many as are live were copied, it would not.
 pub fn cells_of(t: &[u32]) -> [u32; 4225]
     requires { ⌜ length (now t) ≡ 4225 ⌝ }
     ensures { λ r. ⌜ r ≡ now (t .entry) ⌝ }
 {
     let mut cells = [0u32; 4225];
-    copy_cells(&mut cells, 0, t, 0, 4225);
+    copy_cells(&mut cells, t, 4225);
     cells
 }
 
-// The table with these cells.
-pub fn put_cells(t: &mut [u32], cells: &[u32])
-    requires { ⌜ (length (now t) ≡ 4225) × (length (now cells) ≡ 4225) ⌝ }
-    ensures { λ _. ⌜ now (t .exit) ≡ now (cells .entry) ⌝ }
+// A copy of the first 16 rows.
+pub fn few_cells(t: &[u32]) -> [u32; 1040]
+    requires { ⌜ length (now t) ≡ 4225 ⌝ }
+    ensures { λ r. ⌜ r ≡ build (λ k. getD (now (t .entry)) k 0) 1040 ⌝ }
 {
-    copy_cells(t, 0, cells, 0, 4225);
+    let mut cells = [0u32; 1040];
+    copy_cells(&mut cells, t, 1040);
+    cells
 }

@@ -1,12 +1,10 @@
 // Points dropped.
-use crate::copying::copy_cells;
-use crate::copying::put_cells;
 ghost use mathlib.Core.Path.{_≡_};
-ghost use Prim.Native.Nat.{_+_, _*_, _%_, _≤_, _<_};
-ghost use lib.ListN.{length};
+ghost use Prim.Native.Nat.{_+_, _-_, _*_, _≤_, _<_};
+ghost use lib.ListN.{length, getD};
 ghost use Rattle.lists.specs.Loops.{rewritten};
-ghost use Rattle.stn.specs.Table.{pick, oldNumber};
-ghost use Rattle.gaps.specs.Cells.{cell, tableOf, overlaid, dropped};
+ghost use Rattle.stn.specs.Table.{oldNumber};
+ghost use Rattle.gaps.specs.Cells.{droppedCell, dropped};
 
 // The number that point x had before the m points from f on were dropped.
 fn old_number(f: usize, m: usize, x: usize) -> usize
@@ -19,24 +17,46 @@ fn old_number(f: usize, m: usize, x: usize) -> usize
     x + m
 }
 
-// Row a of the table that is left, with `left` points: the row of the point's old number, without the columns of the points dropped.
-fn drop_columns(next: &mut [u32], t: &[u32], f: usize, m: usize, left: usize, a: usize)
-    requires { ⌜ (length (now next) ≡ 4225) × (length (now t) ≡ 4225) × (f ≤ left) × (left + m ≤ 65) × (a < left) ⌝ }
-    ensures { λ _. ⌜ now (next .exit) ≡ rewritten (λ k. cell (now (t .entry)) (oldNumber f m a) (oldNumber f m (k % 65))) (now (next .entry)) (a * 65) (a * 65 + left) ⌝ }
+// `count` cells from `from` on moved down to the places from `to` on. A cell is read before its place is written.
+fn move_cells(t: &mut [u32], to: usize, from: usize, count: usize)
+    requires { ⌜ (length (now t) ≡ 4225) × (to ≤ from) × (from + count ≤ 4225) ⌝ }
+    ensures { λ _. ⌜ now (t .exit) ≡ rewritten (λ k. getD (now (t .entry)) (from + (k - to)) 0) (now (t .entry)) to (to + count) ⌝ }
+{
+    for k in 0..count {
+        t[to + k] = t[from + k];
+    }
+}
+
+// The `count` cells from `from` on hold 0.
+fn clear_cells(t: &mut [u32], from: usize, count: usize)
+    requires { ⌜ (length (now t) ≡ 4225) × (from + count ≤ 4225) ⌝ }
+    ensures { λ _. ⌜ now (t .exit) ≡ rewritten (λ k. 0) (now (t .entry)) from (from + count) ⌝ }
+{
+    for k in 0..count {
+        t[from + k] = 0;
+    }
+}
+
+// Row a of the table that is left, with `left` points: the row of the point's old number, without the columns of the points dropped, and 0 past
+// them. No row and no column moves up, so each is moved before it is written over.
+fn drop_columns(t: &mut [u32], f: usize, m: usize, left: usize, a: usize)
+    requires { ⌜ (length (now t) ≡ 4225) × (f ≤ left) × (left + m ≤ 65) × (a < left) ⌝ }
+    ensures { λ _. ⌜ now (t .exit) ≡ rewritten (droppedCell (now (t .entry)) f m left) (now (t .entry)) (a * 65) ((a + 1) * 65) ⌝ }
 {
     let from = old_number(f, m, a) * 65;
     let to = a * 65;
-    copy_cells(next, to, t, from, f);
-    copy_cells(next, to + f, t, from + f + m, left - f);
+    move_cells(t, to, from, f);
+    move_cells(t, to + f, from + f + m, left - f);
+    clear_cells(t, to + left, 65 - left);
 }
 
-// All rows of the table that is left. Where no point is left, `next` keeps what it held.
-fn drop_rows(next: &mut [u32], t: &[u32], f: usize, m: usize, left: usize)
-    requires { ⌜ (length (now next) ≡ 4225) × (length (now t) ≡ 4225) × (f ≤ left) × (left + m ≤ 65) ⌝ }
-    ensures { λ _. ⌜ now (next .exit) ≡ overlaid left (pick (oldNumber f m) (tableOf (now (t .entry)))) (now (next .entry)) ⌝ }
+// All rows of the table that is left.
+fn drop_rows(t: &mut [u32], f: usize, m: usize, left: usize)
+    requires { ⌜ (length (now t) ≡ 4225) × (f ≤ left) × (left + m ≤ 65) ⌝ }
+    ensures { λ _. ⌜ now (t .exit) ≡ rewritten (droppedCell (now (t .entry)) f m left) (now (t .entry)) 0 (left * 65) ⌝ }
 {
     for a in 0..left {
-        drop_columns(next, t, f, m, left, a);
+        drop_columns(t, f, m, left, a);
     }
 }
 
@@ -45,7 +65,7 @@ pub fn drop_points(t: &mut [u32], f: usize, m: usize, n: usize)
     requires { ⌜ (length (now t) ≡ 4225) × (f + m ≤ n) × (n ≤ 65) ⌝ }
     ensures { λ _. ⌜ now (t .exit) ≡ dropped (now (t .entry)) f m n ⌝ }
 {
-    let mut next = [0u32; 4225];
-    drop_rows(&mut next, t, f, m, n - m);
-    put_cells(t, &next);
+    let left = n - m;
+    drop_rows(t, f, m, left);
+    clear_cells(t, left * 65, 4225 - left * 65);
 }

@@ -4,28 +4,27 @@
 --   over-before, over-later  the new number of a point that stays
 --   stays-none, stays-one    what stays of one use
 --   staying-append           what stays of two parts of a line;  few-stay: no more than there were
---   kept-none, -more, -all   a line's loop: what stays of its first k uses is laid into the new line
 --   staysOf, stayed-all      all lines: what stays of a line, by the arrays that hold them
 --   leftJobs, left-*         the jobs without the oldest: the first k of the others copied
 use mathlib.Core.Path.{_≡_, refl, sym, _∙_, ap}
 use mathlib.Core.Bool.{Bool, true, false, false≢true, cond, _&&_}
-use mathlib.Core.List.{List, [], _∷_, _++_, map, append-nil, append-assoc}
+use mathlib.Core.List.{List, [], _∷_, _++_, map, append-assoc}
 use Prim.Native.Nat.{ℕ, zero, suc, _+_, _-_, _≤_, _<_}
 use native.Mathlib.Decide.{decLt}
 use native.Mathlib.Omega.{arith}
 use native.Mathlib.Numerals.{add-one}
 use lib.Dec.{leb, ltb}
-use lib.ListN.{length, getD, set, take, drop, replicate, length-append, length-take, length-drop}
-use lib.Seq.{take-suc, getD-drop}
+use lib.ListN.{length, getD, set, take, drop, replicate, length-drop}
+use lib.Seq.{getD-drop}
 use borrow.Author.Tests.{lt-ltb, le-ltb, ltb-true, le-leb}
 use Rattle.lines.specs.Padded.{padded}
-use Rattle.plain.specs.Plain.{noUse, goes, over, staying}
+use Rattle.plain.specs.Plain.{goes, over, staying}
 use Rattle.lines.specs.Held.{jobsOf, jobsFrom, lineOf, lineFrom, linesOf, linesFrom, noJob}
 use Rattle.plain.specs.declared.Job.{Job}
 use Rattle.plain.specs.declared.Use.{Use}
 use Rattle.lines.specs.declared.Jobs.{Jobs}
 use Rattle.lines.specs.declared.Line.{Line}
-use Rattle.lines.proofs.Padded.{padded-none, padded-push, padded-copy, padded-last}
+use Rattle.lines.proofs.Padded.{padded-none, padded-copy}
 use Rattle.lines.proofs.Lists.{length-held}
 
 -- ---- points
@@ -88,39 +87,6 @@ module _ (f m : ℕ) where
       let here : List Use =
       cond (goes f m (u .point)) [] (record { point = over f m (u .point); offset = u .offset; length = u .length } ∷ []) in
       ap (_++_ here) (staying-append l r) ∙ sym (append-assoc here (staying f m l) (staying f m r))
-
-  -- the next place stored, with the one use that stays or with none
-  padded-one :
-      (n : ℕ) (l o : List Use) → length l < n → length o ≤ 1
-      → set (padded n noUse l) (length l) (getD o 0 noUse) ≡ padded n noUse (l ++ o)
-  padded-one n l [] h few = padded-push n noUse l noUse h ∙ sym (padded-last n noUse l h) ∙ ap (padded n noUse) (sym (append-nil l))
-  padded-one n l (a ∷ []) h few = padded-push n noUse l a h
-  padded-one n l (a ∷ b ∷ o) h few = absurd (omega arith)
-
-  abbrev pub kept : List Use → ℕ → Line
-  kept q k = lineFrom (staying f m (take k q))
-
-  pub kept-none : (q : List Use) (z : Use) → z ≡ noUse → _≡_ {A = Line} (record { count = 0; uses = replicate 32 z }) (kept q 0)
-  unfolding staying
-  kept-none q z e = ap (λ (l : List Use). record { count = 0; uses = l }) (ap (replicate 32) e ∙ padded-none 32 noUse)
-
-  pub kept-more :
-      (q : List Use) (next : Line) (k : ℕ) (v : Use) (n : ℕ) → next ≡ kept q k → k < 32 → k < length q
-      → v ≡ getD (staying f m (getD q k noUse ∷ [])) 0 noUse → n ≡ length (staying f m (getD q k noUse ∷ []))
-      → _≡_ {A = Line} (record { count = next .count + n; uses = set (next .uses) (next .count) v }) (kept q (k + 1))
-  kept-more q next k v n e h hl ev en =
-      let s : List Use = staying f m (take k q) in
-      let o : List Use = staying f m (getD q k noUse ∷ []) in
-      let all : s ++ o ≡ staying f m (take (k + 1) q) =
-      sym (staying-append (take k q) (getD q k noUse ∷ []))
-      ∙ ap (staying f m) (sym (take-suc q k noUse hl) ∙ ap (λ (i : ℕ). take i q) (sym (add-one k))) in
-      let one : length o ≤ 1 = few-stay (getD q k noUse ∷ []) in
-      let room : length s < 32 = omega (arith, few-stay (take k q), length-take k q) in
-      ap (λ (x : Line). record { count = x .count + n; uses = set (x .uses) (x .count) v }) e
-      ∙ cc (padded-one 32 s o room one, length-append s o, all, ev, en)
-
-  pub kept-all : (q next : Line) (k : ℕ) → next ≡ kept (q .uses) k → k ≡ q .count → next ≡ lineFrom (staying f m (lineOf q))
-  kept-all q next k e h = e ∙ ap (kept (q .uses)) h
 
   -- ---- all lines
 

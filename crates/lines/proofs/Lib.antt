@@ -4,5 +4,4 @@ pub mod JobLaws
 pub mod LineLaws
 pub mod LeavingLaws
 pub mod RuleLaws
-pub mod PlaceLaws
 pub mod DraftLaws

@@ -5,12 +5,11 @@
 --   length-held     the list has as many elements as the count says
 --   length-mapped   the length of an array of structs, from what is known of a parameter
 --   map-set, map-at, set-all   a list that is mapped, and then stored or read; a property of each element, after a store
---   mapping, mapping-*   a loop that maps a list in its place: the first k elements are mapped, the others as they came
 use Prim.Native.Nat.{ℕ, zero, suc, _+_, _≤_, _<_}
 use mathlib.Core.Path.{_≡_, refl, sym, _∙_, ap}
-use mathlib.Core.List.{List, [], _∷_, _++_, map, append-nil}
+use mathlib.Core.List.{List, [], _∷_, map}
 use lib.ListN.{length, getD, set, take, drop, length-take, length-map, drop-of-length-le}
-use lib.Seq.{length-take-le, drop-cons, getD-take, take-all}
+use lib.Seq.{length-take-le, drop-cons, getD-take}
 use native.Mathlib.Omega.{arith}
 use native.Mathlib.Numerals.{add-one}
 
@@ -49,30 +48,3 @@ module _ {A B : Type 0} where
   map-at f [] i d e h = absurd (omega arith)
   map-at f (b ∷ l) zero d e h = refl
   map-at f (b ∷ l) (suc i) d e h = map-at f l i d e (omega arith)
-
-module _ {A : Type 0} (g : A → A) where
-  abbrev pub mapping : List A → ℕ → List A
-  mapping l k = map g (take k l) ++ drop k l
-
-  pub mapping-ahead : (l : List A) (k : ℕ) (z : A) → getD (mapping l k) k z ≡ getD l k z
-  mapping-ahead [] zero z = refl
-  mapping-ahead [] (suc k) z = refl
-  mapping-ahead (a ∷ l) zero z = refl
-  mapping-ahead (a ∷ l) (suc k) z = mapping-ahead l k z
-
-  mapping-suc : (l : List A) (k : ℕ) (z : A) → k < length l → set (mapping l k) k (g (getD (mapping l k) k z)) ≡ mapping l (suc k)
-  mapping-suc [] k z h = absurd (omega arith)
-  mapping-suc (a ∷ l) zero z h = refl
-  mapping-suc (a ∷ l) (suc k) z h = ap (_∷_ (g a)) (mapping-suc l k z (omega arith))
-
-  pub mapping-more :
-      (l next : List A) (k : ℕ) (z new : A) → next ≡ mapping l k → k < length l → new ≡ g (getD next k z) → set next k new ≡ mapping l (k + 1)
-  mapping-more l next k z new e h is =
-      ap (set next k) is
-      ∙ ap (λ (m : List A). set m k (g (getD m k z))) e
-      ∙ mapping-suc l k z h
-      ∙ ap (mapping l) (sym (add-one k))
-
-  pub mapping-all : (l next : List A) (k : ℕ) → next ≡ mapping l k → length l ≤ k → next ≡ map g l
-  mapping-all l next k e h =
-      e ∙ ap (_++_ (map g (take k l))) (drop-of-length-le l h) ∙ append-nil (map g (take k l)) ∙ ap (map g) (take-all k l h)

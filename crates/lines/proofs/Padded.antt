@@ -2,14 +2,14 @@
 --   length-padded       an array has as many places as it has
 --   padded-none         nothing held: z everywhere
 --   padded-push         the next place stored: the list with one more at its end
---   padded-set          a place in use stored
 --   padded-copy         the next of a list that is copied over
 --   padded-last         a z at the end is as good as none
+--   padded-one          the next place stored, with the one element that comes or with none
 --   take-padded         what is read back
 --   padded-at           a place read, whether in use or not
 use Prim.Native.Nat.{ℕ, zero, suc, _≤_, _<_}
 use mathlib.Core.Path.{_≡_, refl, sym, _∙_, ap}
-use mathlib.Core.List.{List, [], _∷_, _++_}
+use mathlib.Core.List.{List, [], _∷_, _++_, append-nil}
 use lib.ListN.{length, getD, set, take, replicate}
 use lib.Seq.{length-take-le, take-suc}
 use native.Mathlib.Omega.{arith}
@@ -33,13 +33,6 @@ module _ {A : Type 0} where
   padded-push (suc n) z [] a h = refl
   padded-push (suc n) z (b ∷ l) a h = ap (_∷_ b) (padded-push n z l a (omega arith))
 
-  pub padded-set : (n : ℕ) (z : A) (l : List A) (k : ℕ) (a : A) → k < length l → set (padded n z l) k a ≡ padded n z (set l k a)
-  unfolding padded
-  padded-set n z [] k a h = absurd (omega arith)
-  padded-set zero z (b ∷ l) k a h = refl
-  padded-set (suc n) z (b ∷ l) zero a h = refl
-  padded-set (suc n) z (b ∷ l) (suc k) a h = ap (_∷_ b) (padded-set n z l k a (omega arith))
-
   pub padded-copy :
       (n : ℕ) (z : A) (l : List A) (k : ℕ) → k < length l → k < n → set (padded n z (take k l)) k (getD l k z) ≡ padded n z (take (suc k) l)
   padded-copy n z l k h hn =
@@ -53,6 +46,12 @@ module _ {A : Type 0} where
   padded-last zero z l h = absurd (omega arith)
   padded-last (suc n) z [] h = refl
   padded-last (suc n) z (a ∷ l) h = ap (_∷_ a) (padded-last n z l (omega arith))
+
+  pub padded-one :
+      (n : ℕ) (z : A) (l o : List A) → length l < n → length o ≤ 1 → set (padded n z l) (length l) (getD o 0 z) ≡ padded n z (l ++ o)
+  padded-one n z l [] h few = padded-push n z l z h ∙ sym (padded-last n z l h) ∙ ap (padded n z) (sym (append-nil l))
+  padded-one n z l (a ∷ []) h few = padded-push n z l a h
+  padded-one n z l (a ∷ b ∷ o) h few = absurd (omega arith)
 
   pub take-padded : (n : ℕ) (z : A) (l : List A) → length l ≤ n → take (length l) (padded n z l) ≡ l
   unfolding padded

@@ -2,10 +2,11 @@
 --   Room-of             rules that hold a short list have room;  Room-less: and so for less
 --   added               after more rules: what is held, and the room that is left
 --   unchanged           no rule put behind
---   pushed              one more rule stored;  first-pushed: the first one
+--   pushed              one more rule stored;  first-pushed: the first one;  stored: one or none;  stored-two: two
 --   Growing, grows, grown   a loop that puts rules behind: what is held and what is to come are all that is wanted
 --   before-none, before-at, after-none, after-at   (d): the rules with the neighbours of a place
---   durations-one       (c): the rules of one step;  durations-next: of a first step, and then of the others
+--   durations-least, durations-most, durations-stored   (c): the rules of one step
+--   durations-next      the rules of a first step, and then of the others
 --   starts-next         clock: the rules of a first job, and then of the others
 --   newest-*            (e): the search for the newest job of a batch, from the front
 use Prim.Native.Nat.{ℕ, zero, suc, _+_, _-_, _≤_, _<_}
@@ -17,14 +18,15 @@ use lib.ListN.{length, getD, set, length-append}
 use native.Mathlib.Omega.{arith}
 use borrow.Author.Tests.{lt-ltb, le-ltb, eq-eqb, ne-eqb}
 use Rattle.plain.specs.Plain.{inOrder, noUse, ruleBefore, ruleAfter, durations, orElse, afterNewest, batchRules, notBefore, starts}
-use Rattle.lines.specs.Held.{rulesOf, rulesFrom, noRule, endRule}
+use Rattle.lines.specs.Held.{rulesOf, rulesFrom, maybeFrom, noRule, endRule}
 use Rattle.lines.specs.Asked.{Room}
 use Rattle.plain.specs.declared.Job.{Job}
 use Rattle.plain.specs.declared.Use.{Use}
 use Rattle.plain.specs.declared.Rule.{Rule}
 use Rattle.plain.specs.declared.Step.{Step}
+use Rattle.lines.specs.declared.rulelist.Maybe.{Maybe}
 use Rattle.lines.specs.declared.rulelist.Rules.{Rules}
-use Rattle.lines.proofs.Padded.{padded-push, take-padded}
+use Rattle.lines.proofs.Padded.{padded-push, padded-one, take-padded}
 
 pub rules-back : (r : Rules) (l : List Rule) → r ≡ rulesFrom l → length l ≤ 82 → rulesOf r ≡ l
 rules-back r l e h = ap rulesOf e ∙ take-padded 82 noRule l h
@@ -66,6 +68,34 @@ pushed q x room =
   where
     one : Rules → Rules
     one r = record { count = r .count + 1; rules = set (r .rules) (r .count) x }
+
+-- one rule or none stored behind the others
+pub stored :
+    (q : Rules) (m : Maybe) (more : List Rule) → Room 1 q → m ≡ maybeFrom more → length more ≤ 1
+    → _≡_ {A = Rules} (record { count = q .count + m .count; rules = set (q .rules) (q .count) (m .rule) }) (rulesFrom (rulesOf q ++ more))
+stored q m more room e few =
+    let l : List Rule = rulesOf q in
+    let short : length l < 82 = omega (arith, held-count room, room .fits) in
+    ap (λ (y : Maybe). one q y) e ∙ ap (λ (r : Rules). one r (maybeFrom more)) (room .tidy)
+    ∙ cc (padded-one 82 noRule l more short few, length-append l more)
+  where
+    one : Rules → Maybe → Rules
+    one r y = record { count = r .count + y .count; rules = set (r .rules) (r .count) (y .rule) }
+
+-- two rules stored behind the others
+pub stored-two :
+    (q : Rules) (x y : Rule) → Room 2 q
+    → _≡_ {A = Rules} (record { count = q .count + 2; rules = set (set (q .rules) (q .count) x) (q .count + 1) y })
+    (rulesFrom (rulesOf q ++ (x ∷ y ∷ [])))
+stored-two q x y room =
+    let one : Rules = record { count = q .count + 1; rules = set (q .rules) (q .count) x } in
+    let is : one ≡ rulesFrom (rulesOf q ++ (x ∷ [])) = pushed q x (Room-less room 1 (omega arith)) in
+    let held = added room one (x ∷ []) 1 1 is (omega arith) (omega arith) in
+    let count : q .count + 2 ≡ q .count + 1 + 1 = omega arith in
+    ap (λ (n : ℕ). record { count = n; rules = set (one .rules) (q .count + 1) y }) count
+    ∙ pushed one y (held .0)
+    ∙ ap (λ (l : List Rule). rulesFrom (l ++ (y ∷ []))) (held .1)
+    ∙ ap rulesFrom (append-assoc (rulesOf q) (x ∷ []) (y ∷ []))
 
 pub first-pushed : (q one : Rules) (x y : Rule) → q ≡ rulesFrom [] → one ≡ rulesFrom (rulesOf q ++ (x ∷ [])) → x ≡ y → one ≡ rulesFrom (y ∷ [])
 first-pushed q one x y none e is = e ∙ ap (λ (l : List Rule). rulesFrom (l ++ (x ∷ []))) (rules-back q [] none (omega arith)) ∙ ap (λ (r : Rule). rulesFrom (r ∷ [])) is
@@ -126,19 +156,33 @@ unfolding durations
 durations-next x s ss = refl
 
 -- the two rules of a step from x to y
-abbrev pub leastRule : ℕ → ℕ → Step → Rule
-leastRule x y s = record { early = x; more = s .shortest; late = y; slack = 0 }
-
-abbrev pub mostRule : ℕ → ℕ → Step → Rule
-mostRule x y s = record { early = y; more = 0; late = x; slack = s .longest }
-
-pub durations-one : (x y : ℕ) (s : Step) → y ≡ suc x → leastRule x y s ∷ mostRule x y s ∷ [] ≡ durations x (s ∷ [])
+pub durations-least :
+    (x y : ℕ) (s : Step) → y ≡ suc x
+    → _≡_ {A = Rule} (record { early = x; more = s .shortest; late = y; slack = 0 }) (getD (durations x (s ∷ [])) 0 noRule)
 unfolding durations
-durations-one x y s e = ap (λ (i : ℕ). leastRule x i s ∷ mostRule x i s ∷ []) e
+durations-least x y s e = ap (λ (i : ℕ). record { early = x; more = s .shortest; late = i; slack = 0 }) e
+
+pub durations-most :
+    (x y : ℕ) (s : Step) → y ≡ suc x
+    → _≡_ {A = Rule} (record { early = y; more = 0; late = x; slack = s .longest }) (getD (durations x (s ∷ [])) 1 noRule)
+unfolding durations
+durations-most x y s e = ap (λ (i : ℕ). record { early = i; more = 0; late = x; slack = s .longest }) e
 
 pub durations-two : (x : ℕ) (s : Step) → length (durations x (s ∷ [])) ≤ 2
 unfolding durations
 durations-two x s = omega arith
+
+-- both stored behind the others
+pub durations-stored :
+    (q : Rules) (x : ℕ) (s : Step) (a b : Rule) → Room 2 q → a ≡ getD (durations x (s ∷ [])) 0 noRule
+    → b ≡ getD (durations x (s ∷ [])) 1 noRule
+    → _≡_ {A = Rules} (record { count = q .count + 2; rules = set (set (q .rules) (q .count) a) (q .count + 1) b })
+    (rulesFrom (rulesOf q ++ durations x (s ∷ [])))
+unfolding durations
+durations-stored q x s a b room ea eb =
+    stored-two q a b room
+    ∙ ap (λ (r : Rule). rulesFrom (rulesOf q ++ (r ∷ b ∷ []))) ea
+    ∙ ap (λ (r : Rule). rulesFrom (rulesOf q ++ (getD (durations x (s ∷ [])) 0 noRule ∷ r ∷ []))) eb
 
 -- ---- clock
 
@@ -217,3 +261,26 @@ batch-none d b last js e = rw (eq-eqb b 0 e)
 pub batch-some : (d b last : ℕ) (js : List Job) → (b ≡ 0 → ⊥) → afterNewest d b last 1 js ≡ batchRules d b last js
 unfolding batchRules
 batch-some d b last js h = rw (ne-eqb b 0 h)
+
+orElse-few : (rs ss : List Rule) → length rs ≤ 1 → length ss ≤ 1 → length (orElse rs ss) ≤ 1
+unfolding orElse
+orElse-few [] ss a b = b
+orElse-few (r ∷ rs) ss a b = a
+
+newest-few : (d b last x : ℕ) (js : List Job) → length (afterNewest d b last x js) ≤ 1
+unfolding afterNewest
+newest-few d b last x [] = omega arith
+newest-few d b last x (j ∷ js) =
+    orElse-few (afterNewest d b last (x + j .points) js) _ (newest-few d b last (x + j .points) js) (few (eqb (j .batch) b))
+  where
+    few : (t : Bool) → length {A = Rule} (cond t (record { early = x + j .points - 1; more = d; late = last; slack = 0 } ∷ []) []) ≤ 1
+    few true = omega arith
+    few false = omega arith
+
+pub batch-few : (d b last : ℕ) (js : List Job) → length (batchRules d b last js) ≤ 1
+unfolding batchRules
+batch-few d b last js = few (eqb b 0)
+  where
+    few : (t : Bool) → length (cond t [] (afterNewest d b last 1 js)) ≤ 1
+    few true = omega arith
+    few false = newest-few d b last 1 js

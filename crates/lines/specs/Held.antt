@@ -2,20 +2,20 @@
 -- names stand between the two.
 --   jobsOf, lineOf, linesOf, rulesOf, putsOf, stepsOf   the list that is held: the first `count` places
 --   jobsFrom, lineFrom, linesFrom, rulesFrom            the list laid into an array, 0 in every place not in use
+--   maybeFrom rs                                        a list of one rule or none
 --   noJob, noRule, noPut, noStep, noLine                what a place not in use holds; `noUse` is the plain machine's
 -- Answers of the code as answers of the plain machine:
 --   endRule d last e   rule (e) with a job whose last point is e - 1; none where e is 0
---   answerOf r         what placing came to: by its ruling `answered`
+--   answered c ls rs   what placing came to, by its ruling: the lines and rules are left out where it is a refusal
 --   stateOf, offerOf   a board's jobs, lines and numbers as a state; what was read of an offer as an offer
---   draftOf            what a draft comes to: where refused, jobs and lines as they came
 use Prim.Native.Nat.{ℕ, zero, suc}
 use mathlib.Core.Bool.{false}
 use mathlib.Core.List.{List, [], _∷_, map}
-use lib.ListN.{length, take}
+use lib.ListN.{length, getD, take}
 use Rattle.rulings.specs.declared.Ruling.{Ruling}
 use Rattle.rulings.specs.declared.Ruling.the-variants.{Accepted, Refused}
 use Rattle.lines.specs.Padded.{padded}
-use Rattle.plain.specs.Plain.{State, Offer, Placed, Draft, noUse}
+use Rattle.plain.specs.Plain.{State, Offer, Placed, noUse}
 use Rattle.plain.specs.declared.Job.{Job}
 use Rattle.lines.specs.declared.Jobs.{Jobs}
 use Rattle.plain.specs.declared.Use.{Use}
@@ -26,8 +26,7 @@ use Rattle.plain.specs.declared.Put.{Put}
 use Rattle.lines.specs.declared.Puts.{Puts}
 use Rattle.plain.specs.declared.Step.{Step}
 use Rattle.lines.specs.declared.Steps.{Steps}
-use Rattle.lines.specs.declared.placing.Placing.{Placing}
-use Rattle.lines.specs.declared.drafting.Drafted.{Drafted}
+use Rattle.lines.specs.declared.rulelist.Maybe.{Maybe}
 
 abbrev pub noJob : Job
 noJob = record { points = 0; batch = 0; sent = false }
@@ -69,6 +68,9 @@ rulesOf r = take (r .count) (r .rules)
 abbrev pub rulesFrom : List Rule → Rules
 rulesFrom rs = record { count = length rs; rules = padded 82 noRule rs }
 
+abbrev pub maybeFrom : List Rule → Maybe
+maybeFrom rs = record { count = length rs; rule = getD rs 0 noRule }
+
 abbrev pub putsOf : Puts → List Put
 putsOf p = take (p .count) (p .puts)
 
@@ -83,16 +85,9 @@ unfoldable pub answered : Ruling → List (List Use) → List Rule → Placed
 answered Accepted ls rs = Placed.done ls rs
 answered (Refused c) ls rs = Placed.stop c
 
-abbrev pub answerOf : Placing → Placed
-answerOf r = answered (r .ruling) (linesOf (r .lines)) (rulesOf (r .rules))
-
 abbrev pub stateOf : Jobs → List Line → ℕ → ℕ → ℕ → State
 stateOf jobs lines clock horizon lead =
     record { jobs = jobsOf jobs; lines = linesOf lines; clock = clock; horizon = horizon; lead = lead }
 
 abbrev pub offerOf : ℕ → Steps → Puts → Offer
 offerOf batch steps puts = record { batch = batch; steps = stepsOf steps; puts = putsOf puts }
-
-unfoldable pub draftOf : Jobs → List Line → Draft → Drafted
-draftOf jobs lines (Draft.stop c) = record { ruling = Refused c; jobs = jobs; lines = lines; rules = rulesFrom [] }
-draftOf jobs lines (Draft.go s n rs) = record { ruling = Accepted; jobs = jobsFrom (s .jobs); lines = linesFrom (s .lines); rules = rulesFrom rs }

@@ -1,4 +1,3 @@
 pub mod Padded
 pub mod Held
 pub mod Asked
-pub mod Turned

@@ -1,15 +1,13 @@
 // What stays of jobs and lines when points leave: the m points from f on.
 ghost use mathlib.Core.Path.{_≡_};
 ghost use mathlib.Core.Bool.{false};
-ghost use mathlib.Core.List.{[], _∷_, map};
-ghost use Prim.Native.Nat.{ℕ, _+_, _≤_};
+ghost use mathlib.Core.List.{[], _∷_};
+ghost use Prim.Native.Nat.{_+_, _≤_};
 ghost use lib.ListN.{length, getD, drop};
 ghost use Rattle.plain.specs.Plain.{noUse, goes, over, staying};
-ghost use Rattle.lines.specs.Held.{jobsOf, jobsFrom, lineOf, lineFrom, linesOf, linesFrom, noLine};
+ghost use Rattle.lines.specs.Held.{jobsOf, jobsFrom};
 use crate::Jobs;
-use crate::Line;
 use crate::joblist::no_job;
-use crate::lining::no_use;
 use plain::Use;
 
 // Whether point x is one of those that leave.
@@ -31,10 +29,20 @@ fn over(f: u32, m: u32, x: u32) -> u32
     x - m
 }
 
-// ---- lines
+// ---- uses
+
+fn no_use() -> Use
+    ensures { λ r. ⌜ r ≡ noUse ⌝ }
+{
+    Use {
+        point: 0,
+        offset: 0,
+        length: 0,
+    }
+}
 
 // How many stay of one use.
-fn stay_count(u: Use, f: u32, m: u32) -> usize
+pub fn stay_count(u: Use, f: u32, m: u32) -> usize
     requires { ⌜ f + m ≤ 65 ⌝ }
     ensures { λ r. ⌜ r ≡ length (staying f m (u ∷ [])) ⌝ }
 {
@@ -45,7 +53,7 @@ fn stay_count(u: Use, f: u32, m: u32) -> usize
 }
 
 // What stays of one use: itself with its point renumbered, or none.
-fn stay_use(u: Use, f: u32, m: u32) -> Use
+pub fn stay_use(u: Use, f: u32, m: u32) -> Use
     requires { ⌜ f + m ≤ 65 ⌝ }
     ensures { λ r. ⌜ r ≡ getD (staying f m (u ∷ [])) 0 noUse ⌝ }
 {
@@ -57,38 +65,6 @@ fn stay_use(u: Use, f: u32, m: u32) -> Use
         offset: u.offset,
         length: u.length,
     }
-}
-
-// The line without the uses of points that leave. Each use is written behind those that stay; one that leaves writes 0 there, and the next
-// is written over it.
-fn stay_line(line: Line, f: u32, m: u32) -> Line
-    requires { ⌜ (line .count ≤ 32) × (f + m ≤ 65) ⌝ }
-    ensures { λ r. ⌜ r ≡ lineFrom (staying f m (lineOf line)) ⌝ }
-{
-    let none = no_use();
-    let mut next = Line {
-        count: 0,
-        uses: [none; 32],
-    };
-    for k in 0..line.count {
-        let u = line.uses[k];
-        let at = next.count;
-        next.uses[at] = stay_use(u, f, m);
-        next.count = at + stay_count(u, f, m);
-    }
-    next
-}
-
-// The lines without the uses of points that leave.
-pub fn stay_lines(lines: [Line; 16], f: u32, m: u32) -> [Line; 16]
-    requires { ⌜ ((k : ℕ) → getD lines k noLine .count ≤ 32) × (f + m ≤ 65) ⌝ }
-    ensures { λ r. ⌜ r ≡ linesFrom (map (staying f m) (linesOf lines)) ⌝ }
-{
-    let mut next = lines;
-    for k in 0..16 {
-        next[k] = stay_line(next[k], f, m);
-    }
-    next
 }
 
 // ---- jobs

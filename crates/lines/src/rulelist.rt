@@ -4,11 +4,11 @@ ghost use mathlib.Core.List.{[], _∷_, _++_};
 ghost use mathlib.Core.Bool.{cond};
 ghost use Prim.Native.Nat.{ℕ, _≤_};
 ghost use lib.Dec.{eqb};
-ghost use Rattle.plain.specs.Plain.{total, notBefore, inOrder, ruleBefore, ruleAfter, durations, afterNewest, batchRules, starts};
-ghost use Rattle.lines.specs.Held.{jobsOf, lineOf, stepsOf, rulesOf, rulesFrom, endRule};
-ghost use Rattle.lines.specs.Asked.{Sized, Short, AllShort, Room};
+ghost use lib.ListN.{getD};
+ghost use Rattle.plain.specs.Plain.{notBefore, inOrder, durations, afterNewest, batchRules, starts};
+ghost use Rattle.lines.specs.Held.{jobsOf, stepsOf, rulesOf, rulesFrom, maybeFrom, noRule, endRule};
+ghost use Rattle.lines.specs.Asked.{Sized, Short, Room};
 use crate::Jobs;
-use crate::Line;
 use crate::Steps;
 use plain::Rule;
 use plain::Step;
@@ -33,6 +33,34 @@ pub fn no_rules() -> Rules
         count: 0,
         rules: [none; 82],
     }
+}
+
+// A rule or none: how many there are, and the rule. It is stored behind the others in any case, 0 where there is none; so nothing is
+// tested in the loops that store, and the list of rules goes into no call.
+pub struct Maybe {
+    pub count: usize,
+    pub rule: Rule,
+}
+
+pub fn no_rule() -> Maybe
+    ensures { λ r. ⌜ r ≡ maybeFrom [] ⌝ }
+{
+    let none = Rule {
+        early: 0,
+        more: 0,
+        late: 0,
+        slack: 0,
+    };
+    Maybe {
+        count: 0,
+        rule: none,
+    }
+}
+
+pub fn one_rule(rule: Rule) -> Maybe
+    ensures { λ r. ⌜ r ≡ maybeFrom (rule ∷ []) ⌝ }
+{
+    Maybe { count: 1, rule }
 }
 
 // The rules with one more.
@@ -60,7 +88,7 @@ pub fn not_before(x: u32, time: u32) -> Rule
 }
 
 // The use a ends no later than the use b starts.
-fn in_order(a: Use, b: Use) -> Rule
+pub fn in_order(a: Use, b: Use) -> Rule
     requires { ⌜ Short a ⌝ }
     ensures { λ r. ⌜ r ≡ inOrder a b ⌝ }
 {
@@ -72,48 +100,30 @@ fn in_order(a: Use, b: Use) -> Rule
     }
 }
 
-// The rule with the use just before the place, if there is one.
-pub fn add_before(rules: Rules, line: Line, place: usize, u: Use) -> Rules
-    requires { ⌜ Room 1 rules × (place ≤ line .count) × (line .count ≤ 32) × AllShort (lineOf line) ⌝ }
-    ensures { λ r. ⌜ r ≡ rulesFrom (rulesOf rules ++ ruleBefore (lineOf line) place u) ⌝ }
+// The rules (c) of a step that runs from the point x: it lasts at least its shortest duration ..
+fn least_rule(x: u32, step: Step) -> Rule
+    requires { ⌜ x ≤ 72 ⌝ }
+    ensures { λ r. ⌜ r ≡ getD (durations x (step ∷ [])) 0 noRule ⌝ }
 {
-    if place == 0 {
-        return rules;
-    }
-    let before = line.uses[place - 1];
-    push(rules, in_order(before, u))
-}
-
-// The rule with the use just after the place, if there is one.
-pub fn add_after(rules: Rules, line: Line, place: usize, u: Use) -> Rules
-    requires { ⌜ Room 1 rules × (line .count ≤ 32) × Short u ⌝ }
-    ensures { λ r. ⌜ r ≡ rulesFrom (rulesOf rules ++ ruleAfter (lineOf line) place u) ⌝ }
-{
-    if line.count <= place {
-        return rules;
-    }
-    let after = line.uses[place];
-    push(rules, in_order(u, after))
-}
-
-// The rules (c) of a step that runs from the point x.
-fn add_duration(rules: Rules, x: u32, step: Step) -> Rules
-    requires { ⌜ Room 2 rules × (x ≤ 72) ⌝ }
-    ensures { λ r. ⌜ r ≡ rulesFrom (rulesOf rules ++ durations x (step ∷ [])) ⌝ }
-{
-    let least = Rule {
+    Rule {
         early: x,
         more: step.shortest,
         late: x + 1,
         slack: 0,
-    };
-    let most = Rule {
+    }
+}
+
+// .. and at most its longest.
+fn most_rule(x: u32, step: Step) -> Rule
+    requires { ⌜ x ≤ 72 ⌝ }
+    ensures { λ r. ⌜ r ≡ getD (durations x (step ∷ [])) 1 noRule ⌝ }
+{
+    Rule {
         early: x + 1,
         more: 0,
         late: x,
         slack: step.longest,
-    };
-    push(push(rules, least), most)
+    }
 }
 
 // The rules (c) of an offer's steps, of which the first runs from the point x.
@@ -125,7 +135,10 @@ pub fn add_durations(old: Rules, x: u32, steps: Steps) -> Rules
     let mut at = x;
     for k in 0..steps.count {
         let step = steps.steps[k];
-        rules = add_duration(rules, at, step);
+        let n = rules.count;
+        rules.rules[n] = least_rule(at, step);
+        rules.rules[n + 1] = most_rule(at, step);
+        rules.count = n + 2;
         at += 1;
     }
     rules
@@ -168,36 +181,48 @@ fn newest_end(jobs: Jobs, batch: u32) -> u32
     found
 }
 
-// The rule (e): `last` comes at least d after the last point of the newest job of the batch.
-pub fn add_batch(rules: Rules, d: u32, batch: u32, last: u32, jobs: Jobs) -> Rules
-    requires { ⌜ Room 1 rules × Sized jobs ⌝ }
-    ensures { λ r. ⌜ r ≡ rulesFrom (rulesOf rules ++ batchRules d batch last (jobsOf jobs)) ⌝ }
+// The rule (e), if there is one: `last` comes at least d after the last point of the newest job of the batch.
+fn batch_rule(d: u32, batch: u32, last: u32, jobs: Jobs) -> Maybe
+    requires { ⌜ Sized jobs ⌝ }
+    ensures { λ r. ⌜ r ≡ maybeFrom (batchRules d batch last (jobsOf jobs)) ⌝ }
 {
     if batch == 0 {
-        return rules;
+        return no_rule();
     }
     let end = newest_end(jobs, batch);
     if end == 0 {
-        return rules;
+        return no_rule();
     }
-    let rule = Rule {
+    one_rule(Rule {
         early: end - 1,
         more: d,
         late: last,
         slack: 0,
-    };
-    push(rules, rule)
+    })
+}
+
+// The rules with the rule (e) behind them.
+pub fn add_batch(rules: Rules, d: u32, batch: u32, last: u32, jobs: Jobs) -> Rules
+    requires { ⌜ Room 1 rules × Sized jobs ⌝ }
+    ensures { λ r. ⌜ r ≡ rulesFrom (rulesOf rules ++ batchRules d batch last (jobsOf jobs)) ⌝ }
+{
+    let made = batch_rule(d, batch, last, jobs);
+    let rule = made.rule;
+    let mut next = rules;
+    let at = next.count;
+    next.rules[at] = rule;
+    next.count = at + made.count;
+    next
 }
 
 // The rule of the clock for a job whose first point is x. A sent job has none.
-fn add_start(rules: Rules, time: u32, x: u32, sent: bool) -> Rules
-    requires { ⌜ Room 1 rules ⌝ }
-    ensures { λ r. ⌜ r ≡ rulesFrom (rulesOf rules ++ cond sent [] (notBefore x time ∷ [])) ⌝ }
+fn start_rule(time: u32, x: u32, sent: bool) -> Maybe
+    ensures { λ r. ⌜ r ≡ maybeFrom (cond sent [] (notBefore x time ∷ [])) ⌝ }
 {
     if sent {
-        return rules;
+        return no_rule();
     }
-    push(rules, not_before(x, time))
+    one_rule(not_before(x, time))
 }
 
 // The rules of the clock: each unsent job starts at `time` or later.
@@ -209,7 +234,11 @@ pub fn start_rules(time: u32, jobs: Jobs) -> Rules
     let mut x = 1;
     for k in 0..jobs.count {
         let job = jobs.jobs[k];
-        rules = add_start(rules, time, x, job.sent);
+        let made = start_rule(time, x, job.sent);
+        let rule = made.rule;
+        let at = rules.count;
+        rules.rules[at] = rule;
+        rules.count = at + made.count;
         x += job.points;
     }
     rules

@@ -1,13 +1,12 @@
 -- Laws of the chain that an offer names, and of the order of the fact check. Assumes nothing.
 --   action-is       an action's four masks
---   here, next-at   the step that `work_back` stands at, and where the next one starts
---   chain-none, back-clash, back-facts   one step of the regression over the chain
+--   known-in, here, ends-within, next-at   the step that a reader stands at, and where the next one starts
 --   known-twice, goal-twice, on-to-facts  refusal 10, and what comes after it
 --   plant-refused, offer-refused, both-passed-to   the order of the whole check
-use Prim.Native.Nat.{ℕ, zero, suc, _+_, _-_, _*_, _≤_, _<_}
+use Prim.Native.Nat.{ℕ, _+_, _-_, _*_, _≤_, _<_}
 use native.Mathlib.Omega.{arith}
 use native.Mathlib.Numerals.{add-one}
-use mathlib.Core.Path.{_≡_, refl, sym, ap, ap₂, subst, _∙_}
+use mathlib.Core.Path.{_≡_, sym, ap, ap₂, subst, _∙_}
 use mathlib.Core.List.{List}
 use mathlib.Core.Bool.{true, false}
 use lib.ListN.{length}
@@ -18,13 +17,12 @@ use Rattle.rulings.specs.declared.Ruling.{Ruling}
 use Rattle.rulings.specs.declared.Ruling.the-variants.{Accepted, Refused}
 use Rattle.rulings.specs.Answer.{refuse}
 use Rattle.plant.specs.declared.Trailer.{Trailer}
-use Rattle.plant.specs.Plant.{trailerOf, recordStart, plantRuling}
+use Rattle.plant.specs.Plant.{trailerOf, recordStart, allocationCount, plantRuling}
 use Rattle.facts.specs.declared.Literals.{Literals}
 use Rattle.facts.specs.declared.Action.{Action}
 use Rattle.facts.specs.declared.Need.{Need}
-use Rattle.facts.specs.declared.Need.the-variants.{Facts, Clash}
-use Rattle.facts.specs.Regression.{workBack, thenBack, backOver, onNeed, factRuling}
-use Rattle.offer.specs.Offer.{knownOf, goalOf, stepCount, placeCount, stepEnd, stepStart, offerRuling, actionOf, chainFrom, chainRuling, factCheck}
+use Rattle.facts.specs.Regression.{workBack, onNeed, factRuling}
+use Rattle.offer.specs.Offer.{knownOf, goalOf, stepCount, stepEnd, stepStart, offerRuling, actionOf, chainFrom, chainRuling, factCheck}
 use Rattle.offer.proofs.Steps.{Step, read-of}
 
 pub action-is :
@@ -33,36 +31,20 @@ pub action-is :
 unfolding actionOf
 action-is p x at a b c d e h i j k = simp (← e, ← h, ← i, ← j, ← k)
 
--- ---- the chain
+-- ---- the step that a reader stands at
 
 -- the action read is one of the plant's
 pub known-in : (p o : List ℕ) (at x : ℕ) (t : Trailer) → x ≡ word o at → t ≡ trailerOf p → word o at < trailerOf p .count → x < t .count
 known-in p o at x t ex et h = rw (ex, et) h
 
-pub chain-none : (p o : List ℕ) (k left : ℕ) (goal : Literals) → left ≡ 0 → goal ≡ goalOf o → Facts goal ≡ workBack (chainFrom p o k left) k (goalOf o)
-unfolding chainFrom
-chain-none p o k left goal e g = rw (e, g)
-
-module _ (p o : List ℕ) (k left at : ℕ) (some : left ≡ 0 → ⊥) (sum : k + left ≡ stepCount o) (ea : at ≡ stepStart p o k) where
-  -- the step that stands at `at`
+module _ (p o : List ℕ) (k at : ℕ) (within : k < stepCount o) (ea : at ≡ stepStart p o k) where
   pub here : offerRuling p o ≡ Accepted → Step p o at
-  here e = subst (Step p o) (sym ea) (read-of p o e .steps k (omega arith))
+  here e = subst (Step p o) (sym ea) (read-of p o e .steps k within)
 
-  chain-next :
-      (goal : Literals) → thenBack (actionOf p (word o at)) k (workBack (chainFrom p o (k + 1) (left - 1)) (k + 1) goal) ≡ workBack (chainFrom p o k left) k goal
-  unfolding chainFrom
-  chain-next goal = go left some
-    where
-      go : (n : ℕ) → (n ≡ 0 → ⊥) → thenBack (actionOf p (word o at)) k (workBack (chainFrom p o (k + 1) (n - 1)) (k + 1) goal) ≡ workBack (chainFrom p o k n) k goal
-      go zero f = absurd (f refl)
-      go (suc n) f =
-          let one-less : suc n - 1 ≡ n = omega arith in
-          ap₂ (λ (x j : ℕ). thenBack (actionOf p (word o x)) k (workBack (chainFrom p o (k + 1) j) (k + 1) goal)) ea one-less
-
-  -- the same for a reader that has the action and the number of its places in hand
-  module _ (x n : ℕ) (ex : x ≡ word o at) (en : n ≡ placeCount p x) where
+  -- the same for a reader that has the action, its record and the number of its places in hand
+  module _ (x s n : ℕ) (ex : x ≡ word o at) (es : s ≡ recordStart p x) (en : n ≡ allocationCount p s) where
     same-end : at + 4 + 4 * n ≡ stepEnd p o at
-    same-end = ap (λ (j : ℕ). at + 4 + 4 * j) (en ∙ ap (placeCount p) ex)
+    same-end = ap (λ (j : ℕ). at + 4 + 4 * j) (en ∙ ap (allocationCount p) (es ∙ ap (recordStart p) ex))
 
     pub ends-within : offerRuling p o ≡ Accepted → at + 4 + 4 * n ≤ length o
     ends-within e = rw same-end (here e .whole)
@@ -70,16 +52,6 @@ module _ (p o : List ℕ) (k left at : ℕ) (some : left ≡ 0 → ⊥) (sum : k
     pub next-at : at + 4 + 4 * n ≡ stepStart p o (k + 1)
     unfolding stepStart
     next-at = same-end ∙ rw (add-one k, ← ea)
-
-    module _ (w : Need) (ew : w ≡ workBack (chainFrom p o (k + 1) (left - 1)) (k + 1) (goalOf o)) where
-      then-this : thenBack (actionOf p x) k w ≡ workBack (chainFrom p o k left) k (goalOf o)
-      then-this = ap₂ (λ (y : ℕ) (v : Need). thenBack (actionOf p y) k v) ex ew ∙ chain-next (goalOf o)
-
-      pub back-clash : (c : Cause) → w ≡ Clash c → w ≡ workBack (chainFrom p o k left) k (goalOf o)
-      back-clash c q = q ∙ sym (ap (thenBack (actionOf p x) k) q) ∙ then-this
-
-      pub back-facts : (a : Action) (l : Literals) → w ≡ Facts l → a ≡ actionOf p x → backOver a k l ≡ workBack (chainFrom p o k left) k (goalOf o)
-      back-facts a l q e = ap (λ (b : Action). backOver b k l) e ∙ sym (ap (thenBack (actionOf p x) k) q) ∙ then-this
 
 -- ---- 10 to 13
 
@@ -93,11 +65,14 @@ module _ (p o : List ℕ) (known : Literals) (ek : known ≡ knownOf o) where
     unfolding chainRuling
     goal-twice s = simp (← ek, apart, ← eg, s)
 
+    -- the chain is handed over as a list that is shown to be the offer's
     pub on-to-facts :
-        share (goal .pos) (goal .neg) ≡ false → (n : ℕ) (w : Need) → n ≡ stepCount o → w ≡ workBack (chainFrom p o 0 n) 0 (goalOf o)
-        → onNeed known w ≡ chainRuling p o
+        share (goal .pos) (goal .neg) ≡ false → (n : ℕ) (chain : List Action) (w : Need) → n ≡ stepCount o → chain ≡ chainFrom p o 0 n
+        → w ≡ workBack chain 0 goal → onNeed known w ≡ chainRuling p o
     unfolding chainRuling factRuling
-    on-to-facts s n w en ew = simp (← ek, apart, ← en, ← ew) (simp (← eg, s))
+    on-to-facts s n chain w en ec ew =
+        let is : w ≡ workBack (chainFrom p o 0 n) 0 (goalOf o) = ew ∙ ap₂ (λ (x : List Action) (g : Literals). workBack x 0 g) ec eg in
+        simp (← ek, apart, ← en, ← is) (simp (← eg, s))
 
 -- ---- the order of the whole check
 

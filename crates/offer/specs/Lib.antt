@@ -1,1 +1,2 @@
 pub mod Offer
+pub mod Held

@@ -15,13 +15,15 @@ use rulings::Cause;
 use rulings::Record;
 use rulings::Ruling;
 use rulings::refusal;
+use words::byte_at;
 use words::u32_at;
 ghost use mathlib.Core.Path.{_≡_};
 ghost use Prim.Native.Nat.{_+_, _*_, _≤_, _<_, _^_};
 ghost use lib.ListN.{length};
 ghost use Rattle.plant.specs.Plant.{plantRuling, trailerOf};
 ghost use Rattle.facts.specs.Regression.{workBack};
-ghost use Rattle.offer.specs.Offer.{knownOf, goalOf, stepCount, stepStart, stepAt, offerRuling, actionOf, chainFrom, chainRuling, factCheck};
+ghost use Rattle.offer.specs.Held.{heldAction, held};
+ghost use Rattle.offer.specs.Offer.{knownOf, goalOf, stepCount, stepAt, offerRuling, chainFrom, chainRuling, factCheck};
 
 // The facts known of the sheet.
 fn read_known(offer: &[u8]) -> Literals
@@ -103,39 +105,60 @@ pub fn read_offer(plant: &[u8], t: Trailer, offer: &[u8]) -> Ruling
     read_steps(plant, t, offer, count)
 }
 
-// What an action of a good plant needs and makes.
-fn action_at(plant: &[u8], t: Trailer, action: u32) -> Action
-    requires { ⌜ (plantRuling (now plant) ≡ Ruling.Accepted) × (t ≡ trailerOf (now plant)) × (action < t .count) ⌝ }
-    ensures { λ r. ⌜ r ≡ actionOf (now (plant .entry)) action ⌝ }
+// Reads the masks of the steps, in their order: four words for each step, 0 past the last. Each step's record is found once.
+fn read_masks(plant: &[u8], t: Trailer, offer: &[u8], count: u32) -> [u32; 32]
+    requires { ⌜ (plantRuling (now plant) ≡ Ruling.Accepted) × (t ≡ trailerOf (now plant)) × (offerRuling (now plant) (now offer) ≡ Ruling.Accepted) × (count ≡ stepCount (now offer)) ⌝ }
+    ensures { λ r. ⌜ held r 0 count ≡ chainFrom (now (plant .entry)) (now (offer .entry)) 0 count ⌝ }
 {
-    let at = start_of(plant, t, action);
+    let mut masks = [0u32; 32];
+    let mut at = 24;
+    let mut step = 0;
+    while step < count {
+        let start = start_of(plant, t, u32_at(offer, at));
+        let to = 4 * (step as usize);
+        masks[to] = u32_at(plant, start);
+        masks[to + 1] = u32_at(plant, start + 4);
+        masks[to + 2] = u32_at(plant, start + 8);
+        masks[to + 3] = u32_at(plant, start + 12);
+        at = at + 4 + 4 * byte_at(plant, start + 24);
+        step += 1;
+    }
+    masks
+}
+
+// What step k needs and makes.
+fn action_at(masks: &[u32; 32], k: u32) -> Action
+    requires { ⌜ k < 8 ⌝ }
+    ensures { λ r. ⌜ r ≡ heldAction (now (masks .entry)) k ⌝ }
+{
+    let at = 4 * (k as usize);
     Action {
         needs: Literals {
-            pos: u32_at(plant, at),
-            neg: u32_at(plant, at + 4),
+            pos: masks[at],
+            neg: masks[at + 1],
         },
         makes: Literals {
-            pos: u32_at(plant, at + 8),
-            neg: u32_at(plant, at + 12),
+            pos: masks[at + 2],
+            neg: masks[at + 3],
         },
     }
 }
 
-// What must hold before the last `left` steps, the first of which is number `step` and starts at `at`. The later steps come first.
-fn work_back(plant: &[u8], t: Trailer, offer: &[u8], left: u32, step: u32, at: usize) -> Need
-    requires { ⌜ (plantRuling (now plant) ≡ Ruling.Accepted) × (t ≡ trailerOf (now plant)) × (offerRuling (now plant) (now offer) ≡ Ruling.Accepted) × (step + left ≡ stepCount (now offer)) × (at ≡ stepStart (now plant) (now offer) step) ⌝ }
-    ensures { λ r. ⌜ r ≡ workBack (chainFrom (now (plant .entry)) (now (offer .entry)) step left) step (goalOf (now (offer .entry))) ⌝ }
+// What must hold before the first `left` steps, where the facts `pos` and `neg` must hold after them. The last of them comes first.
+fn work_back(masks: &[u32; 32], left: u32, pos: u32, neg: u32) -> Need
+    requires { ⌜ left ≤ 8 ⌝ }
+    ensures { λ r. ⌜ r ≡ workBack (held (now (masks .entry)) 0 left) 0 (record { pos = pos; neg = neg }) ⌝ }
 {
+    let after = Literals { pos: pos, neg: neg };
     if left == 0 {
-        return Need::Facts(read_goal(offer));
+        return Need::Facts(after);
     }
-    let action = u32_at(offer, at);
-    let n = allocation_count(plant, t, action);
-    let later = work_back(plant, t, offer, left - 1, step + 1, at + 4 + 4 * n);
-    let Need::Facts(need) = later else {
-        return later;
+    let step = left - 1;
+    let before = back_over(action_at(masks, step), step, after);
+    let Need::Facts(need) = before else {
+        return before;
     };
-    back_over(action_at(plant, t, action), step, need)
+    work_back(masks, step, need.pos, need.neg)
 }
 
 // The first of refusals 10 to 13, for an offer that passed 7 to 9.
@@ -151,7 +174,9 @@ pub fn check_chain(plant: &[u8], t: Trailer, offer: &[u8]) -> Ruling
     if overlap(goal.pos, goal.neg) {
         return Ruling::Refused(Cause::Plain(10));
     }
-    let need = work_back(plant, t, offer, u32_at(offer, 20), 0, 24);
+    let count = u32_at(offer, 20);
+    let masks = read_masks(plant, t, offer, count);
+    let need = work_back(&masks, count, goal.pos, goal.neg);
     match need {
         Need::Facts(l) => at_start(known, l),
         Need::Clash(c) => Ruling::Refused(c),

@@ -28,7 +28,7 @@ use Rattle.stn.specs.Table.{Table, earliest, latest}
 use Rattle.lists.proofs.AllBelow.{both-true}
 use Rattle.gaps.specs.Cells.{tableOf}
 use Rattle.gaps.specs.GapTable.{isGapTable}
-use Rattle.sound.specs.declared.Board.{Board}
+use Rattle.boardwords.specs.declared.Board.{Board}
 use Rattle.sound.specs.Sound.{pointsOf, allOf, sizedNumbers, sizedJobs, sizedLine, sentFrom, stillSent, sound}
 use Rattle.sound.proofs.Soundness.{jobs-sized}
 use Rattle.board.specs.Calls.{refusal}

@@ -21,7 +21,7 @@ use Rattle.lines.specs.Held.{jobsOf}
 use Rattle.lines.specs.Padded.{padded}
 use Rattle.stn.specs.Table.{Table, earliest, latest}
 use Rattle.gaps.specs.Cells.{tableOf}
-use Rattle.sound.specs.declared.Board.{Board}
+use Rattle.boardwords.specs.declared.Board.{Board}
 use Rattle.sound.specs.Sound.{sound}
 use Rattle.board.specs.declared.Ruled.{Ruled}
 use Rattle.board.specs.Calls.{refusal}

@@ -8,13 +8,13 @@
 // `report_front`, which lends it, is walked too.
 // It may use board (the answer), sound, lines and gaps; it changes no board.
 use board::Ruled;
+use boardwords::Board;
 use gaps::earliest;
 use gaps::latest;
 use lines::Jobs;
 use lines::points;
 use rulings::Cause;
 use rulings::Ruling;
-use sound::Board;
 use sound::is_sound;
 ghost use mathlib.Core.Path.{_≡_};
 ghost use Prim.Native.Nat.{_≤_, _<_, min};

@@ -3,6 +3,7 @@
 // It may use calls and explain, and of the kit io, os and libc.
 mod input;
 
+use boardwords::Board;
 use calls::Answer;
 use calls::Fault;
 use calls::ends;
@@ -15,7 +16,6 @@ use input::Line;
 use input::take_line;
 use libc::STDOUT_FILENO;
 use rulings::number;
-use sound::Board;
 use text::least;
 use text::put;
 ghost use Prim.Native.Nat.{_≤_};

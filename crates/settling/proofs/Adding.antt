@@ -2,20 +2,23 @@
 --   Adding l n rs t left   the table t comes of l by adding rules of rs, and `left` are left to add
 --   begins, stops, goes-on, ends   one law for each place of the loop
 --   all-added, not-added   what the answer of the code says: all rules were added, or not, whatever cells stand there then
+--   live-put       the live rows put over those that adding changed, and over those before it
 --   usable-wide    a usable rule is usable among more points
-use Prim.Native.Nat.{ℕ, _+_, _≤_}
+use Prim.Native.Nat.{ℕ, _+_, _*_, _≤_}
 use native.Mathlib.Omega.{arith}
-use mathlib.Core.Path.{_≡_, refl, sym, subst, _∙_}
+use mathlib.Core.Path.{_≡_, refl, sym, subst, ap, _∙_}
 use mathlib.Core.Bool.{Bool, true, false}
 use mathlib.Core.List.{List, [], _∷_}
 use mathlib.Core.Option.{Option}
-use lib.ListN.{length}
+use lib.ListN.{length, getD}
 use lib.Dec.{leb}
 use borrow.Author.Tests.{leb-true}
 use Rattle.plain.specs.declared.Rule.{Rule}
+use Rattle.lists.specs.Loops.{rewritten}
+use Rattle.lists.proofs.Rewritten.{rewritten-length, rewritten-in, rewritten-from, rewritten-is}
 use Rattle.stn.specs.Table.{bias, Closed, Agrees}
 use Rattle.gaps.specs.Cells.{cell, tableOf, added, Usable}
-use Rattle.gaps.proofs.Added.{added-length, added-closed}
+use Rattle.gaps.proofs.Added.{added-length, added-closed, added-past}
 use Rattle.settling.specs.Settled.{AllUsable, addedAll, outcome}
 
 pub usable-wide : (n m : ℕ) (r : Rule) → n ≤ m → Usable n r → Usable m r
@@ -29,9 +32,11 @@ pub record Adding (l : List ℕ) (n : ℕ) (rs : List Rule) (t : List ℕ) (left
   pub usable : AllUsable n left
   -- adding what is left comes to what adding all comes to
   pub same : addedAll left n t ≡ addedAll rs n l
+  -- no row past the live ones has changed
+  pub rest : (k : ℕ) → n * 65 ≤ k → getD t k 0 ≡ getD l k 0
 
 pub begins : (l : List ℕ) (n : ℕ) (rs : List Rule) → length l ≡ 4225 → Closed n (tableOf l) → AllUsable n rs → Adding l n rs l rs
-begins l n rs e c u = record { cells = e; closed = c; usable = u; same = refl }
+begins l n rs e c u = record { cells = e; closed = c; usable = u; same = refl; rest = λ k h. refl }
 
 module _ {l : List ℕ} {n : ℕ} {rs : List Rule} {t : List ℕ} {left : List Rule} (s : Adding l n rs t left) where
   pub ends : left ≡ [] → outcome true t ≡ addedAll rs n l
@@ -71,6 +76,7 @@ module _ {l : List ℕ} {n : ℕ} {rs : List Rule} {t : List ℕ} {left : List R
           closed = added-closed t n r (s .cells) h (s .closed) (usable-here .early-live) (usable-here .late-live) (agree f);
           usable = all-usable .1;
           same = sym (rw (addedAll, f)) ∙ same-here;
+          rest = λ k past. added-past t n r (s .cells) h k past ∙ s .rest k past;
         })
 
 module _ (ok : Bool) (m : List ℕ) (o : Option (List ℕ)) (e : outcome ok m ≡ o) where
@@ -80,3 +86,15 @@ module _ (ok : Bool) (m : List ℕ) (o : Option (List ℕ)) (e : outcome ok m �
   pub not-added : ok ≡ false → (x : List ℕ) → outcome false x ≡ o
   unfolding outcome
   not-added f x = subst (λ (z : Bool). outcome z m ≡ o) f e
+
+-- adding made g of l and changed only the first q cells: to put these into g is to put them into l
+pub live-put :
+    (f : ℕ → ℕ) (l g x : List ℕ) (q : ℕ) → length g ≡ length l → ((k : ℕ) → q ≤ k → getD g k 0 ≡ getD l k 0) → x ≡ rewritten f g 0 q
+    → x ≡ rewritten f l 0 q
+live-put f l g x q same rest out =
+    rewritten-is f l x 0 q (ap length out ∙ rewritten-length f g 0 q ∙ same)
+    (λ k lo hi h. at k ∙ rewritten-in f g 0 q k lo hi (omega arith)) (λ k h. absurd (omega arith))
+    (λ k h. at k ∙ rewritten-from f g 0 q k h ∙ rest k h)
+  where
+    at : (k : ℕ) → getD x k 0 ≡ getD (rewritten f g 0 q) k 0
+    at k = ap (λ (w : List ℕ). getD w k 0) out

@@ -4,21 +4,27 @@
 --   usesEnd, linesEnd          the tests of a list of uses, and of lines
 --   uses-next, uses-end        the loop over the uses of a line;  lines-next, lines-end: over the lines
 --   last-late, last-over       the last point after the clock, and by it
-use mathlib.Core.Path.{_≡_, refl, sym, _∙_, ap}
+--   read-at, read-next         a use of a line read where it lies, in words
+--   lined-read                 what is asked of a line of a board's words;  read-line-next, -end: the loop over them
+use mathlib.Core.Path.{_≡_, refl, sym, _∙_, ap, subst}
 use mathlib.Core.Bool.{Bool, true, false, cond, _&&_, and-true, and-assoc}
 use mathlib.Core.List.{List, [], _∷_, append-nil}
-use Prim.Native.Nat.{ℕ, _+_, _≤_, _<_}
+use Prim.Native.Nat.{ℕ, _+_, _*_, _≤_, _<_}
 use native.Mathlib.Omega.{arith}
 use native.Mathlib.Numerals.{add-one}
 use lib.Dec.{leb}
 use lib.ListN.{length, getD, drop, drop-of-length-le}
-use lib.Seq.{drop-cons}
+use lib.Seq.{drop-cons, getD-take}
 use borrow.Author.Tests.{le-leb, lt-leb}
 use Rattle.plain.specs.declared.Rule.{Rule}
 use Rattle.plain.specs.declared.Use.{Use}
-use Rattle.plain.specs.Plain.{goes, notAfter, endOf, endsBy, allEndBy}
+use Rattle.plain.specs.Plain.{noUse, goes, notAfter, endOf, endsBy, allEndBy}
 use Rattle.lines.specs.declared.Line.{Line}
 use Rattle.lines.specs.Held.{lineOf, linesOf, noLine}
+use Rattle.lines.specs.Asked.{AllShort, Lined}
+use Rattle.lines.proofs.Lists.{held-next, map-at}
+use Rattle.boardwords.specs.Words.{Words, useFrom, useAt, usesFrom, lineFrom, lineAt, linesFrom}
+use Rattle.boardwords.proofs.Listed.{length-listed, listed-at}
 use Rattle.stn.specs.Table.{bias, implied}
 use Rattle.stn.proofs.Fits.{implied-append}
 use Rattle.gaps.specs.Cells.{cell, tableOf}
@@ -84,14 +90,14 @@ module _ (l : List ℕ) (c f m : ℕ) where
   unfolding endsBy implied
   uses-end us k ok is e = flag-end (λ u. usesEnd (u ∷ [])) usesEnd ends-split us k ok is e refl
 
-  pub lines-next :
+  lines-next :
       (ls : List Line) (k : ℕ) (ok : Bool) → (ok && linesEnd (drop k ls)) ≡ linesEnd ls → (test : Bool) → k < length ls
       → test ≡ usesEnd (lineOf (getD ls k noLine)) → (ok && test && linesEnd (drop (k + 1) ls)) ≡ linesEnd ls
   lines-next ls k ok is test h t =
       let left : drop k ls ≡ getD ls k noLine ∷ drop (k + 1) ls = rw (add-one k) (drop-cons ls k noLine h) in
       flag-next (λ q. usesEnd (lineOf q)) linesEnd lines-split ls k ok is (getD ls k noLine) test left t
 
-  pub lines-end : (ls : List Line) (k : ℕ) (ok : Bool) → (ok && linesEnd (drop k ls)) ≡ linesEnd ls → length ls ≤ k → ok ≡ linesEnd ls
+  lines-end : (ls : List Line) (k : ℕ) (ok : Bool) → (ok && linesEnd (drop k ls)) ≡ linesEnd ls → length ls ≤ k → ok ≡ linesEnd ls
   unfolding allEndBy implied
   lines-end ls k ok is h = flag-end (λ q. usesEnd (lineOf q)) linesEnd lines-split ls k ok is (drop-of-length-le ls h) refl
 
@@ -102,6 +108,44 @@ module _ (l : List ℕ) (c x : ℕ) (rs : List Rule) where
   unfolding implied notAfter
   last-late h = rw (lt-leb (cell l 0 x + 0) (bias + c) (omega (arith, origin-row l x)))
 
-  pub last-over : getD l x 0 ≤ bias + c → implied (tableOf l) rs ≡ implied (tableOf l) (notAfter x c ∷ rs)
+  pub last-over : (test : Bool) → test ≡ implied (tableOf l) rs → getD l x 0 ≤ bias + c → test ≡ implied (tableOf l) (notAfter x c ∷ rs)
   unfolding implied notAfter
-  last-over h = rw (le-leb (cell l 0 x + 0) (bias + c) (omega (arith, origin-row l x)))
+  last-over test e h = e ∙ rw (le-leb (cell l 0 x + 0) (bias + c) (omega (arith, origin-row l x)))
+
+-- ---- uses read one by one
+
+module _ (w : Words) (at k : ℕ) (few : w at ≤ 32) (h : k < w at) (u : Use) (is : u ≡ useFrom w (at + 1 + 3 * k)) where
+  use-at : getD (usesFrom w (at + 1)) k noUse ≡ u
+  use-at = listed-at (useAt w (at + 1)) 32 k noUse (omega arith) ∙ sym is
+
+  pub read-at : getD (lineOf (lineFrom w at)) k noUse ≡ u
+  read-at = getD-take (w at) (usesFrom w (at + 1)) k noUse h ∙ use-at
+
+  pub read-next : drop k (lineOf (lineFrom w at)) ≡ u ∷ drop (k + 1) (lineOf (lineFrom w at))
+  read-next =
+      held-next (w at) (usesFrom w (at + 1)) k noUse h (omega (arith, length-listed (useAt w (at + 1)) 32))
+      ∙ ap (λ (a : Use). a ∷ drop (k + 1) (lineOf (lineFrom w at))) use-at
+
+-- ---- lines of a board's words
+
+line-read : (w : Words) (k : ℕ) → k < 16 → getD (linesFrom w) k noLine ≡ lineAt w k
+line-read w k h = listed-at (lineAt w) 16 k noLine h
+
+pub lined-read : (w : Words) (k : ℕ) → k < 16 → Lined (linesFrom w) → (w (52 + 97 * k) ≤ 32) × AllShort (lineOf (lineAt w k))
+lined-read w k h l =
+    let size : length (linesFrom w) ≡ 16 = length-listed (lineAt w) 16 in
+    let held : getD (linesOf (linesFrom w)) k [] ≡ lineOf (lineAt w k) =
+    map-at lineOf (linesFrom w) k noLine [] (omega arith) ∙ ap lineOf (line-read w k h) in
+    (omega (arith, ap (λ (q : Line). q .count) (line-read w k h), l .counts k), subst AllShort held (l .short k))
+
+module _ (l : List ℕ) (c f m : ℕ) (w : Words) (k : ℕ) (ok : Bool)
+    (is : (ok && linesEnd l c f m (drop k (linesFrom w))) ≡ linesEnd l c f m (linesFrom w)) where
+  pub read-line-next :
+      (test : Bool) → k < 16 → test ≡ usesEnd l c f m (lineOf (lineAt w k))
+      → (ok && test && linesEnd l c f m (drop (k + 1) (linesFrom w))) ≡ linesEnd l c f m (linesFrom w)
+  read-line-next test h t =
+      lines-next l c f m (linesFrom w) k ok is test (omega (arith, length-listed (lineAt w) 16))
+      (t ∙ ap (λ (q : Line). usesEnd l c f m (lineOf q)) (sym (line-read w k h)))
+
+  pub read-line-end : 16 ≤ k → ok ≡ linesEnd l c f m (linesFrom w)
+  read-line-end h = lines-end l c f m (linesFrom w) k ok is (omega (arith, length-listed (lineAt w) 16))

@@ -1,5 +1,5 @@
 // Rules settled on a gap table, where it lies: tried one after the other, points set to their earliest times, or points that leave found to be over.
-// It may use gaps, lines and plain; callers give it a table and rules, and it knows no board.
+// It may use gaps, lines and plain, and boardwords to read the uses of lines where they lie; callers give it a table and rules, and it knows no board.
 mod ending; // whether points that leave are over by the clock
 mod freezing; // points set equal to their earliest times
 
@@ -8,15 +8,17 @@ pub use freezing::freeze;
 use gaps::add;
 use gaps::agrees;
 use gaps::cells_of;
+use gaps::copy_cells;
+use gaps::few_cells;
 use gaps::grow;
 use gaps::implies;
-use gaps::put_cells;
 use lines::Rules;
 use plain::Rule;
 ghost use mathlib.Core.Path.{_≡_};
 ghost use mathlib.Core.Bool.{false};
-ghost use Prim.Native.Nat.{_+_, _≤_, _<_};
-ghost use lib.ListN.{length};
+ghost use Prim.Native.Nat.{ℕ, _+_, _*_, _≤_, _<_};
+ghost use lib.ListN.{length, getD};
+ghost use Rattle.lists.specs.Loops.{rewritten};
 ghost use Rattle.lines.specs.Held.{rulesOf};
 ghost use Rattle.stn.specs.Table.{bias, Closed, Agrees};
 ghost use Rattle.gaps.specs.Cells.{tableOf, added, grown, Usable};
@@ -34,11 +36,13 @@ fn add_new(t: &mut [u32], n: usize, rule: Rule)
     add(t, n, rule);
 }
 
-// The rules added one after the other to a table of n points, up to the first that does not agree with those before it.
+// The rules added one after the other to a table of n points, up to the first that does not agree with those before it. No row past the live
+// ones changes.
 fn add_all(t: &mut [u32], n: usize, rules: Rules) -> bool
     requires { ⌜ (length (now t) ≡ 4225) × (n ≤ 65) × Closed n (tableOf (now t)) ⌝ }
     requires { ⌜ (rules .count ≤ 82) × AllUsable n (rulesOf rules) ⌝ }
-    ensures { λ r. ⌜ outcome r (now (t .exit)) ≡ addedAll (rulesOf rules) n (now (t .entry)) ⌝ }
+    ensures tried { λ r. ⌜ outcome r (now (t .exit)) ≡ addedAll (rulesOf rules) n (now (t .entry)) ⌝ }
+    ensures rest { λ _. ⌜ ((k : ℕ) → n * 65 ≤ k → getD (now (t .exit)) k 0 ≡ getD (now (t .entry)) k 0) ⌝ }
 {
     let mut k = 0;
     while k < rules.count {
@@ -52,28 +56,45 @@ fn add_all(t: &mut [u32], n: usize, rules: Rules) -> bool
     true
 }
 
-// The same; where a rule does not agree, the table gets the cells of `old`.
+// The same; where a rule does not agree, the live rows get the cells of `old`.
 fn add_or_put(t: &mut [u32], n: usize, rules: Rules, old: &[u32]) -> bool
     requires { ⌜ (length (now t) ≡ 4225) × (n ≤ 65) × Closed n (tableOf (now t)) ⌝ }
     requires { ⌜ (rules .count ≤ 82) × AllUsable n (rulesOf rules) ⌝ }
-    requires { ⌜ length (now old) ≡ 4225 ⌝ }
+    requires { ⌜ n * 65 ≤ length (now old) ⌝ }
     ensures tried { λ r. ⌜ outcome r (now (t .exit)) ≡ addedAll (rulesOf rules) n (now (t .entry)) ⌝ }
-    ensures kept { λ r. ⌜ (r ≡ false → now (t .exit) ≡ now (old .entry)) ⌝ }
+    ensures kept { λ r. ⌜ (r ≡ false → now (t .exit) ≡ rewritten (λ k. getD (now (old .entry)) k 0) (now (t .entry)) 0 (n * 65)) ⌝ }
 {
     if add_all(t, n, rules) {
         return true;
     }
-    put_cells(t, old);
+    copy_cells(t, old, n * 65);
     false
 }
 
-// The rules added to a table of n points; where one does not agree with those before it, the table stays as it came.
+// The same with m new points first, each from 0 to `most`.
+fn grow_or_put(t: &mut [u32], n: usize, m: usize, most: u32, rules: Rules, old: &[u32]) -> bool
+    requires { ⌜ (length (now t) ≡ 4225) × (0 < n) × (n + m ≤ 65) × (most ≤ bias) × Closed n (tableOf (now t)) ⌝ }
+    requires { ⌜ (rules .count ≤ 82) × AllUsable (n + m) (rulesOf rules) ⌝ }
+    requires { ⌜ (n + m) * 65 ≤ length (now old) ⌝ }
+    ensures tried { λ r. ⌜ outcome r (now (t .exit)) ≡ addedAll (rulesOf rules) (n + m) (grown (now (t .entry)) n m most) ⌝ }
+    ensures kept { λ r. ⌜ (r ≡ false → now (t .exit) ≡ rewritten (λ k. getD (now (old .entry)) k 0) (now (t .entry)) 0 ((n + m) * 65)) ⌝ }
+{
+    grow(t, n, m, most);
+    add_or_put(t, n + m, rules, old)
+}
+
+// The rules added to a table of n points; where one does not agree with those before it, the table stays as it came. Only live rows change, so
+// of few points few rows are kept.
 pub fn try_rules(t: &mut [u32], n: usize, rules: Rules) -> bool
     requires { ⌜ (length (now t) ≡ 4225) × (n ≤ 65) × Closed n (tableOf (now t)) ⌝ }
     requires { ⌜ (rules .count ≤ 82) × AllUsable n (rulesOf rules) ⌝ }
     ensures tried { λ r. ⌜ outcome r (now (t .exit)) ≡ addedAll (rulesOf rules) n (now (t .entry)) ⌝ }
     ensures kept { λ r. ⌜ (r ≡ false → now (t .exit) ≡ now (t .entry)) ⌝ }
 {
+    if n <= 16 {
+        let few = few_cells(t);
+        return add_or_put(t, n, rules, &few);
+    }
     let old = cells_of(t);
     add_or_put(t, n, rules, &old)
 }
@@ -85,7 +106,10 @@ pub fn try_grown(t: &mut [u32], n: usize, m: usize, most: u32, rules: Rules) -> 
     ensures tried { λ r. ⌜ outcome r (now (t .exit)) ≡ addedAll (rulesOf rules) (n + m) (grown (now (t .entry)) n m most) ⌝ }
     ensures kept { λ r. ⌜ (r ≡ false → now (t .exit) ≡ now (t .entry)) ⌝ }
 {
+    if n + m <= 16 {
+        let few = few_cells(t);
+        return grow_or_put(t, n, m, most, rules, &few);
+    }
     let old = cells_of(t);
-    grow(t, n, m, most);
-    add_or_put(t, n + m, rules, &old)
+    grow_or_put(t, n, m, most, rules, &old)
 }

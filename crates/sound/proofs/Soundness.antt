@@ -28,7 +28,7 @@ use Rattle.stn.specs.Table.{bias}
 use Rattle.gaps.specs.Cells.{cell}
 use Rattle.gaps.specs.GapTable.{isGapTable}
 use Rattle.gaps.proofs.GapTable.{gapTable-to, gapTable-of}
-use Rattle.sound.specs.declared.Board.{Board}
+use Rattle.boardwords.specs.declared.Board.{Board}
 use Rattle.sound.specs.Sound.{
   SizedJob,
   SizedUse,

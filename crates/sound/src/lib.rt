@@ -1,12 +1,16 @@
-// The board, and whether it is sound. A board comes from outside, so any number may stand anywhere in it: each count is compared with its
+// Whether a board is sound. A board comes from outside, so any number may stand anywhere in it: each count is compared with its
 // array before the array is walked, and each number with its limit before it is added to another.
 //
 // Each function is one clause of the test in specs/Sound.
-// It may use gaps, lines and plain, and rules on soundness alone.
+// It may use gaps, lines, plain and boardwords, and rules on soundness alone.
+use boardwords::Board;
+use boardwords::are_marked;
+use boardwords::read_jobs;
+use boardwords::read_use;
+use boardwords::write_board;
 use gaps::BIAS;
 use gaps::is_gap_table;
 use lines::Jobs;
-use lines::Line;
 use lines::points;
 use plain::Job;
 use plain::Use;
@@ -19,57 +23,8 @@ ghost use Rattle.stn.specs.Table.{bias};
 ghost use Rattle.plain.specs.Plain.{total};
 ghost use Rattle.lines.specs.Held.{jobsOf, lineOf};
 ghost use Rattle.lines.specs.Asked.{Sized};
-ghost use Rattle.sound.specs.Framed.{frameOf, whole};
-ghost use Rattle.sound.specs.Sound.{allOf, sizedNumbers, sizedJob, sizedJobs, sizedUse, sizedLine, sentFrom, standStill, stillJob, stillSent, sound};
-
-// The jobs under way, the lines of their uses, and the gap table: cell (i, j) at 65 i + j holds the gap from i to j plus the bias.
-pub struct Board {
-    pub horizon: u32,
-    pub lead: u32,
-    pub clock: u32,
-    pub jobs: Jobs,
-    pub lines: [Line; 16],
-    pub gaps: [u32; 4225],
-}
-
-// A board without its gap table, which is most of it: a call takes the frame by value, and the table lent where it lies.
-pub struct Frame {
-    pub horizon: u32,
-    pub lead: u32,
-    pub clock: u32,
-    pub jobs: Jobs,
-    pub lines: [Line; 16],
-}
-
-pub fn frame_of(b: Board) -> Frame
-    ensures { λ r. ⌜ r ≡ frameOf b ⌝ }
-{
-    let jobs = b.jobs;
-    let lines = b.lines;
-    Frame {
-        horizon: b.horizon,
-        lead: b.lead,
-        clock: b.clock,
-        jobs,
-        lines,
-    }
-}
-
-// The board of a frame and a table.
-pub fn whole(f: Frame, gaps: [u32; 4225]) -> Board
-    ensures { λ r. ⌜ r ≡ whole f gaps ⌝ }
-{
-    let jobs = f.jobs;
-    let lines = f.lines;
-    Board {
-        horizon: f.horizon,
-        lead: f.lead,
-        clock: f.clock,
-        jobs,
-        lines,
-        gaps,
-    }
-}
+ghost use Rattle.boardwords.specs.Words.{wordIn, heldJobs, lineFrom, linesFrom, boardIn};
+ghost use Rattle.sound.specs.Sound.{allOf, framed, sizedNumbers, sizedJob, sizedJobs, sizedUse, sizedLine, sentFrom, standStill, stillJob, stillSent, sound};
 
 // ---- numbers and jobs
 
@@ -137,33 +92,37 @@ fn is_use_sized(u: Use, n: u32) -> bool
         & (u.length <= 1_000_000)
 }
 
-fn are_uses_sized(line: Line, n: u32) -> bool
-    requires { ⌜ line .count ≤ 32 ⌝ }
-    ensures { λ r. ⌜ r ≡ allOf (sizedUse n) (lineOf line) ⌝ }
+// The uses in use of the line at word `at`.
+fn are_uses_sized(w: &[u32], at: usize, n: u32) -> bool
+    requires { ⌜ (at + 97 ≤ length (now w)) × (wordIn (now w) at ≤ 32) ⌝ }
+    ensures { λ r. ⌜ r ≡ allOf (sizedUse n) (lineOf (lineFrom (wordIn (now (w .entry))) at)) ⌝ }
 {
+    let count = w[at] as usize;
     let mut ok = true;
-    for k in 0..line.count {
-        let u = line.uses[k];
+    for k in 0..count {
+        let u = read_use(w, at + 1 + 3 * k);
         ok = ok & is_use_sized(u, n);
     }
     ok
 }
 
-fn is_line_sized(line: Line, n: u32) -> bool
-    ensures { λ r. ⌜ r ≡ sizedLine n line ⌝ }
+fn is_line_sized(w: &[u32], at: usize, n: u32) -> bool
+    requires { ⌜ at + 97 ≤ length (now w) ⌝ }
+    ensures { λ r. ⌜ r ≡ sizedLine n (lineFrom (wordIn (now (w .entry))) at) ⌝ }
 {
-    if 32 < line.count {
+    if 32 < w[at] {
         return false;
     }
-    are_uses_sized(line, n)
+    are_uses_sized(w, at, n)
 }
 
-fn are_lines_sized(lines: [Line; 16], n: u32) -> bool
-    ensures { λ r. ⌜ r ≡ allOf (sizedLine n) lines ⌝ }
+fn are_lines_sized(w: &[u32], n: u32) -> bool
+    requires { ⌜ 1604 ≤ length (now w) ⌝ }
+    ensures { λ r. ⌜ r ≡ allOf (sizedLine n) (linesFrom (wordIn (now (w .entry)))) ⌝ }
 {
     let mut ok = true;
     for k in 0..16 {
-        ok = ok & is_line_sized(lines[k], n);
+        ok = ok & is_line_sized(w, 52 + 97 * k, n);
     }
     ok
 }
@@ -232,35 +191,47 @@ fn is_sent_still(t: &[u32], jobs: Jobs) -> bool
 
 // ---- the board
 
-// Whether the board of a frame and a table is sound. The clauses come in this order: each keeps the numbers of the next small.
-pub fn is_sound_on(f: Frame, t: &[u32]) -> bool
-    requires { ⌜ length (now t) ≡ 4225 ⌝ }
-    ensures { λ r. ⌜ r ≡ sound (whole f (now (t .entry))) ⌝ }
+// The clauses, of a board whose jobs are at hand and whose table is lent. They come in this order: each keeps the numbers of the next small.
+fn are_clauses_kept(w: &[u32], jobs: Jobs, t: &[u32]) -> bool
+    requires { ⌜ (1604 ≤ length (now w)) × (length (now t) ≡ 4225) ⌝ }
+    ensures { λ r. ⌜ r ≡ sound (framed (wordIn (now (w .entry))) jobs (now (t .entry))) ⌝ }
 {
-    if !are_numbers_sized(f.horizon, f.lead, f.clock) {
+    if !are_numbers_sized(w[0], w[1], w[2]) {
         return false;
     }
-    let jobs = f.jobs;
     if !are_jobs_sized(jobs) {
         return false;
     }
     let n = points(jobs);
-    let lines = f.lines;
-    if !are_lines_sized(lines, n) {
+    if !are_lines_sized(w, n) {
         return false;
     }
     if !is_sent_first(jobs) {
         return false;
     }
-    if !is_gap_table(t, n as usize + 1, f.horizon) {
+    if !is_gap_table(t, n as usize + 1, w[0]) {
         return false;
     }
     is_sent_still(t, jobs)
 }
 
+// Whether the board of these words is sound. Its jobs are those read from them, which every caller needs too.
+pub fn is_sound_in(w: &[u32], jobs: Jobs) -> bool
+    requires { ⌜ (length (now w) ≡ 5829) × (jobs ≡ heldJobs (wordIn (now w))) ⌝ }
+    ensures { λ r. ⌜ r ≡ sound (boardIn (now (w .entry))) ⌝ }
+{
+    if !are_marked(w) {
+        return false;
+    }
+    are_clauses_kept(w, jobs, &w[1604..])
+}
+
+// The same of a board by value: a count that no word holds is too large as the largest word, too.
 pub fn is_sound(b: Board) -> bool
     ensures { λ r. ⌜ r ≡ sound b ⌝ }
 {
-    let gaps = b.gaps;
-    is_sound_on(frame_of(b), &gaps)
+    let mut words = [0u32; 5829];
+    write_board(b, &mut words);
+    let jobs = read_jobs(&words);
+    is_sound_in(&words, jobs)
 }

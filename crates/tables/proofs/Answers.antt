@@ -12,7 +12,7 @@ use lib.ListN.{length}
 use borrow.Author.Tests.{lt-ltb, le-ltb, eq-eqb, ne-eqb}
 use Rattle.lines.specs.Asked.{Sized}
 use Rattle.lists.proofs.AllBelow.{both-true}
-use Rattle.sound.specs.declared.Board.{Board}
+use Rattle.boardwords.specs.declared.Board.{Board}
 use Rattle.sound.specs.Sound.{pointsOf, sizedNumbers, sizedJobs, sound}
 use Rattle.sound.proofs.Soundness.{jobs-sized}
 use Rattle.tables.specs.declared.Compared.the-variants.{FirstUnsound, SecondUnsound, Points, Equal}

@@ -12,7 +12,7 @@ use native.Mathlib.Omega.{arith}
 use lib.Dec.{eqb}
 use lib.ListN.{length}
 use borrow.Author.Tests.{eqb-true, eqb-false}
-use Rattle.sound.specs.declared.Board.{Board}
+use Rattle.boardwords.specs.declared.Board.{Board}
 use Rattle.sound.specs.Sound.{pointsOf, sound}
 use Rattle.tables.specs.declared.Compared.{Compared}
 use Rattle.tables.specs.declared.Compared.the-variants.{FirstUnsound, SecondUnsound, Points, Entry, Equal}

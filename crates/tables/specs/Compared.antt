@@ -8,7 +8,7 @@ use mathlib.Core.Bool.{cond}
 use mathlib.Core.List.{List, [], _∷_}
 use lib.Dec.{ltb, eqb}
 use lib.ListN.{length, getD}
-use Rattle.sound.specs.declared.Board.{Board}
+use Rattle.boardwords.specs.declared.Board.{Board}
 use Rattle.sound.specs.Sound.{pointsOf, sound}
 use Rattle.tables.specs.declared.Compared.{Compared}
 use Rattle.tables.specs.declared.Compared.the-variants.{FirstUnsound, SecondUnsound, Points, Entry, Equal}

@@ -36,7 +36,7 @@ same-length c = search needs
 
 returns-3 : tie.Need-returns-3
 returns-3 c = let A = c .before .before .before .before .before .before .before .before .before .before .args in
-    let p = given-accepted (A .board .now) _ (c .before .before .before .before .before .before .before .fresh .result) (c .before .before .before .before .before .enum-told2 .given .1) (c .before .before .write-board .ensures) in
+    let p = given-accepted (A .board .now) _ (c .before .before .before .before .before .before .before .fresh .result) (c .before .before .before .before .before .enum-told2 .given .1) (c .before .before .write-board .ensures .0) in
     answered (λ b. freshRuled (record { horizon = A .horizon; lead = A .lead })) (A .board .now) (boardIn (A .board .now)) _ _ _ (c .before .before .before .before .before .before .before .before .if1 .left) refl (c .before .before .before .before .before .before .before .fresh .ensures) (p .0) (p .1)
 
 pub sf-fresh-spec : {M : Type 1} → statement M

@@ -1,47 +1,65 @@
 -- `action_at` meets its contract, mask by mask.
-use Rattle.offer.proofs.Chain.{action-is}
+use Rattle.offer.specs.Held.{heldAction}
 use Prim.Native.Nat.{_-_}
+use mathlib.Core.Path.{refl}
 use borrow.Author.Needs.{needs}
 use Rattle.offer.proofs.action_at.Statement.{statement}
 use Rattle.offer.proofs.action_at.Tie as tie
 
-start-of-requires : tie.Need-start-of-requires
-start-of-requires c κs = search needs
+mul-at : tie.Need-mul-at
+mul-at c = search needs
 
-u32-at-requires : tie.Need-u32-at-requires
-u32-at-requires c κs = search needs
+mul-t4 : tie.Need-mul-t4
+mul-t4 c = search needs
 
-add-u32-at : tie.Need-add-u32-at
-add-u32-at c = search needs
+element-copy-out-t7 : tie.Need-element-copy-out-t7
+element-copy-out-t7 c = search needs
 
-u32-at-requires-2 : tie.Need-u32-at-requires-2
-u32-at-requires-2 c κs = search needs
+add-t8 : tie.Need-add-t8
+add-t8 c = search needs
 
-add-u32-at-2 : tie.Need-add-u32-at-2
-add-u32-at-2 c = search needs
+mul-t9 : tie.Need-mul-t9
+mul-t9 c = search needs
 
-u32-at-requires-3 : tie.Need-u32-at-requires-3
-u32-at-requires-3 c κs = search needs
+element-copy-out-t12 : tie.Need-element-copy-out-t12
+element-copy-out-t12 c = search needs
 
-add-u32-at-3 : tie.Need-add-u32-at-3
-add-u32-at-3 c = search needs
+add-t14 : tie.Need-add-t14
+add-t14 c = search needs
 
-u32-at-requires-4 : tie.Need-u32-at-requires-4
-u32-at-requires-4 c κs = search needs
+mul-t15 : tie.Need-mul-t15
+mul-t15 c = search needs
+
+element-copy-out-t18 : tie.Need-element-copy-out-t18
+element-copy-out-t18 c = search needs
+
+add-t19 : tie.Need-add-t19
+add-t19 c = search needs
+
+mul-t20 : tie.Need-mul-t20
+mul-t20 c = search needs
+
+element-copy-out-t23 : tie.Need-element-copy-out-t23
+element-copy-out-t23 c = search needs
 
 returns : tie.Need-returns
-returns c = action-is _ _ _ _ _ _ _ (c .before .before .before .before .start-of .ensures .0) (c .before .before .before .u32-at .ensures) (c .before .before .u32-at2 .ensures) (c .before .u32-at3 .ensures) (c .u32-at4 .ensures)
+unfolding heldAction
+returns c = refl
 
 pub action-at-spec : {M : Type 1} → statement M
 action-at-spec =
     tie.close
     (tie.spec
-    start-of-requires
-    u32-at-requires
-    add-u32-at
-    u32-at-requires-2
-    add-u32-at-2
-    u32-at-requires-3
-    add-u32-at-3
-    u32-at-requires-4
+    mul-at
+    mul-t4
+    element-copy-out-t7
+    add-t8
+    mul-t9
+    element-copy-out-t12
+    add-t14
+    mul-t15
+    element-copy-out-t18
+    add-t19
+    mul-t20
+    element-copy-out-t23
     returns)

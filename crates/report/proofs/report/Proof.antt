@@ -43,9 +43,9 @@ use denote.Triple.Statement.{Contract, Triple}
 use denote.Triple.Table.{entered, cited}
 use denote.Triple.Walked.{says, Stays, stay-none, gave-slice, walkOf, goes-none, goes-gave-slice, Walks, ends-at, walked, walk-meets}
 use denote.Exit.{yes}
-use Rattle.sound.specs.declared.Board.{Board}
-use Rattle.sound.proofs.Board as B
-use Rattle.sound.proofs.Board.Laws as B′
+use Rattle.boardwords.specs.declared.Board.{Board}
+use Rattle.boardwords.proofs.Board as B
+use Rattle.boardwords.proofs.Board.Laws as B′
 use Rattle.board.proofs.Ruled as E
 use Rattle.board.proofs.Ruled.Laws as E′
 use Rattle.report.specs.declared.Row.{Row}

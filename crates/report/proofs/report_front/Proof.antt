@@ -47,9 +47,9 @@ use denote.Triple.Statement.{Contract, Triple}
 use denote.Triple.Table.{entered, cited}
 use denote.Triple.Walked.{says, needs, Stays, stay-none, walkOf, goes-none, Walks, ends-at, walked, walk-meets}
 use denote.Exit.{yes}
-use Rattle.sound.specs.declared.Board.{Board}
-use Rattle.sound.proofs.Board as B
-use Rattle.sound.proofs.Board.Laws as B′
+use Rattle.boardwords.specs.declared.Board.{Board}
+use Rattle.boardwords.proofs.Board as B
+use Rattle.boardwords.proofs.Board.Laws as B′
 use Rattle.board.specs.declared.Ruled.{Ruled}
 use Rattle.board.proofs.Ruled as E
 use Rattle.board.proofs.Ruled.Laws as E′

@@ -37,7 +37,8 @@ same-length c = omega arith
 returns : tie.Need-returns Inv-loop μ-loop
 returns c = let size : length (c .before .before .before .before .before .before .before .args .t3 .rules) ≡ 82 = search (needs, length-mapped) in
     let next = held-next (c .before .before .before .before .before .before .before .args .t3 .count) (c .before .before .before .before .before .before .before .args .t3 .rules) (c .before .before .before .before .before .loop .k) noRule (c .before .before .before .before .loop-test .taken) (omega (arith, size)) in
-    stops (c .before .before .before .before .before .loop .inv .1) _ _ next _ (sym (c .before .agrees .ensures) ∙ not-true _ (c .if1 .taken))
+    let s = c .before .before .before .before .before .loop .inv .1 in
+    (stops s _ _ next _ (sym (c .before .agrees .ensures) ∙ not-true _ (c .if1 .taken)), s .rest)
 
 add-new-requires : tie.Need-add-new-requires Inv-loop μ-loop
 add-new-requires c κs = let size : length (c .before .before .before .before .before .before .before .before .args .t3 .rules) ≡ 82 = search (needs, length-mapped) in
@@ -62,7 +63,9 @@ same-length-2 : tie.Need-same-length-2 Inv-loop μ-loop
 same-length-2 c = omega arith
 
 returns-2 : tie.Need-returns-2 Inv-loop μ-loop
-returns-2 c = ends (c .before .loop .inv .1) (held-over (c .before .before .before .args .t3 .count) (c .before .before .before .args .t3 .rules) (c .before .loop .k) (omega arith))
+returns-2 c =
+    let s = c .before .loop .inv .1 in
+    (ends s (held-over (c .before .before .before .args .t3 .count) (c .before .before .before .args .t3 .rules) (c .before .loop .k) (omega arith)), s .rest)
 
 pub add-all-spec : {M : Type 1} → statement M
 add-all-spec =

@@ -1,9 +1,11 @@
--- `add_or_put` meets its contract: all rules are added, or the old cells are put.
-use mathlib.Core.Path.{_≡_, refl, sym, _∙_}
+-- `add_or_put` meets its contract: all rules are added, or the old cells of the live rows are put.
+use Prim.Native.Nat.{ℕ, _*_}
+use mathlib.Core.Path.{_≡_}
 use mathlib.Core.Bool.{true≢false}
-use borrow.Author.Tests.{not-true, not-false}
+use native.Mathlib.Omega.{arith}
+use lib.ListN.{getD}
 use borrow.Author.Needs.{needs}
-use Rattle.settling.proofs.Adding.{all-added, not-added}
+use Rattle.settling.proofs.Adding.{all-added, not-added, live-put}
 use Rattle.settling.proofs.add_or_put.Statement.{statement}
 use Rattle.settling.proofs.add_or_put.Tie as tie
 
@@ -14,21 +16,35 @@ same-length : tie.Need-same-length
 same-length c = search needs
 
 returns : tie.Need-returns
-returns c = (all-added _ _ _ (c .before .before .before .add-all .ensures) (c .if1 .taken), λ e. absurd (true≢false e))
+returns c = (all-added _ _ _ (c .before .before .before .add-all .ensures .0) (c .if1 .taken), λ e. absurd (true≢false e))
 
-put-cells-requires : tie.Need-put-cells-requires
-put-cells-requires c κs = search needs
+mul-copy-cells : tie.Need-mul-copy-cells
+mul-copy-cells c = search needs
+
+copy-cells-requires : tie.Need-copy-cells-requires
+copy-cells-requires c κs = search needs
 
 same-length-2 : tie.Need-same-length-2
 same-length-2 c = search needs
 
 returns-2 : tie.Need-returns-2
-returns-2 c = (
-  not-added _ _ _ (c .before .before .before .before .before .before .before .add-all .ensures) (c .before .before .before .before .if1 .left) _,
-  λ e. c .before .before .put-cells .ensures,
-)
+returns-2 c =
+    let A = c .before .before .before .before .before .before .before .before .before .before .before .args in
+    let added = c .before .before .before .before .before .before .before .add-all in
+    let put = c .before .before .copy-cells in
+    let cells : ℕ → ℕ = λ k. getD (A .old .now) k 0 in (
+      not-added _ _ _ (added .ensures .0) (c .before .before .before .before .if1 .left) _,
+      λ e. live-put cells (A .t .now) (added .last .0) (put .last .0) (A .n * 65) (omega arith) (added .ensures .1) (put .ensures),
+    )
 
 pub add-or-put-spec : {M : Type 1} → statement M
 add-or-put-spec =
     tie.close
-    (tie.spec add-all-requires same-length returns put-cells-requires same-length-2 returns-2)
+    (tie.spec
+    add-all-requires
+    same-length
+    returns
+    mul-copy-cells
+    copy-cells-requires
+    same-length-2
+    returns-2)

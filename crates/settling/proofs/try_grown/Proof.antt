@@ -1,63 +1,73 @@
--- `try_grown` meets its contract: the table with its new points is closed, so that rules can be tried on it.
-use Prim.Native.Nat.{ℕ, _+_}
-use mathlib.Core.Path.{_≡_, _∙_, ap}
+-- `try_grown` meets its contract: the cells that are put back are those that were copied.
+use Prim.Native.Nat.{ℕ, _+_, _*_}
+use mathlib.Core.Path.{_≡_, ap}
 use mathlib.Core.List.{List}
 use native.Mathlib.Omega.{arith}
-use lib.ListN.{length}
+use lib.ListN.{length, getD}
 use borrow.Author.Needs.{needs}
-use Rattle.gaps.proofs.Grown.{grown-length}
-use Rattle.gaps.proofs.GapTable.{grown-closed}
-use Rattle.lines.specs.Held.{rulesOf}
-use Rattle.settling.specs.Settled.{addedAll}
+use Rattle.gaps.proofs.Copied.{put-back, few-kept}
 use Rattle.settling.proofs.try_grown.Statement.{statement}
 use Rattle.settling.proofs.try_grown.Tie as tie
 
-cells-of-requires : tie.Need-cells-of-requires
-cells-of-requires c κs = search needs
+add-if1 : tie.Need-add-if1
+add-if1 c = search needs
 
-grow-requires : tie.Need-grow-requires
-grow-requires c κs =
-    let p = c .before .before .before .before .pre .0 in
-    ((p .0, p .1, p .2, p .3), λ i h. p .4 .bounded i 0 h (p .1))
+few-cells-requires : tie.Need-few-cells-requires
+few-cells-requires c κs = search needs
 
-add-add-or-put : tie.Need-add-add-or-put
-add-add-or-put c = search needs
+slice-aggregate-grow-or-put : tie.Need-slice-aggregate-grow-or-put
+slice-aggregate-grow-or-put c = search needs
 
-slice-aggregate-add-or-put : tie.Need-slice-aggregate-add-or-put
-slice-aggregate-add-or-put c = search needs
-
-add-or-put-requires : tie.Need-add-or-put-requires
-add-or-put-requires c κs =
-    let A = c .before .before .before .before .before .before .before .before .before .args in
-    let p = c .before .before .before .before .before .before .before .before .before .pre .0 in
-    let e = c .before .before .before .before .grow .ensures in
-    let size : length (c .before .before .before .before .before .before .cells-of .result) ≡ 4225 = search needs in (
-      (
-        ap length e ∙ grown-length (A .t .now) (A .n) (A .m) (A .most) (p .0) (p .2),
-        p .2,
-        rw e (grown-closed (A .t .now) (A .n) (A .m) (A .most) (p .0) (p .1) (p .2) (p .3) (p .4)),
-      ),
-      (c .before .before .before .before .before .before .before .before .before .pre .1, size),
-    )
+grow-or-put-requires : tie.Need-grow-or-put-requires
+grow-or-put-requires c κs =
+    let p = c .before .before .before .before .before .before .pre in
+    let size : length (c .before .before .few-cells .result) ≡ 1040 = search needs in
+    (p .0, (p .1, omega (arith, size)))
 
 same-length : tie.Need-same-length
 same-length c = search needs
 
 returns : tie.Need-returns
 returns c =
-    let A = c .before .before .before .before .before .before .before .before .before .before .before .before .args in (
-      c .before .before .add-or-put .ensures .0 ∙ ap (λ (l : List ℕ). addedAll (rulesOf (A .rules)) (A .n + A .m) l) (c .before .before .before .before .before .before .before .grow .ensures),
-      λ e. c .before .before .add-or-put .ensures .1 e ∙ c .before .before .before .before .before .before .before .before .before .cells-of .ensures,
-    )
+    let A = c .before .before .before .before .before .before .before .before .before .args in
+    let kept = c .before .before .before .before .before .few-cells in
+    let tried = c .before .before .grow-or-put .ensures in
+    (tried .0, λ e. put-back (A .t .now) (kept .result) _ ((A .n + A .m) * 65) (λ k h. few-kept (A .t .now) (kept .result) 1040 (kept .ensures) k (omega (arith, c .before .before .before .before .before .before .before .if1 .taken))) (tried .1 e))
+
+cells-of-requires : tie.Need-cells-of-requires
+cells-of-requires c κs = search needs
+
+slice-aggregate-grow-or-put-2 : tie.Need-slice-aggregate-grow-or-put-2
+slice-aggregate-grow-or-put-2 c = search needs
+
+grow-or-put-requires-2 : tie.Need-grow-or-put-requires-2
+grow-or-put-requires-2 c κs =
+    let p = c .before .before .before .before .before .before .pre in
+    let size : length (c .before .before .cells-of .result) ≡ 4225 = search needs in
+    (p .0, (p .1, omega (arith, size)))
+
+same-length-2 : tie.Need-same-length-2
+same-length-2 c = search needs
+
+returns-2 : tie.Need-returns-2
+returns-2 c =
+    let A = c .before .before .before .before .before .before .before .before .before .args in
+    let kept = c .before .before .before .before .before .cells-of in
+    let tried = c .before .before .grow-or-put2 .ensures in
+    (tried .0, λ e. put-back (A .t .now) (kept .result) _ ((A .n + A .m) * 65) (λ k h. ap (λ (w : List ℕ). getD w k 0) (kept .ensures)) (tried .1 e))
 
 pub try-grown-spec : {M : Type 1} → statement M
 try-grown-spec =
     tie.close
     (tie.spec
-    cells-of-requires
-    grow-requires
-    add-add-or-put
-    slice-aggregate-add-or-put
-    add-or-put-requires
+    add-if1
+    few-cells-requires
+    slice-aggregate-grow-or-put
+    grow-or-put-requires
     same-length
-    returns)
+    returns
+    cells-of-requires
+    slice-aggregate-grow-or-put-2
+    grow-or-put-requires-2
+    same-length-2
+    returns-2)

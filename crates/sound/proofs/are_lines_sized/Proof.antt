@@ -5,30 +5,31 @@ use mathlib.Core.Path.{_≡_, refl}
 use native.Mathlib.Omega.{arith}
 use lib.ListN.{drop, drop-of-length-le, length}
 use borrow.Author.Needs.{needs}
-use Rattle.lines.specs.Held.{noLine}
-use Rattle.lines.proofs.Lists.{length-mapped}
+use Rattle.boardwords.specs.Words.{wordIn, lineAt, linesFrom}
+use Rattle.boardwords.proofs.Listed.{length-listed}
 use Rattle.sound.specs.Sound.{allOf, sizedLine}
-use Rattle.sound.proofs.Flags.{left-next, all-next, all-end}
+use Rattle.sound.proofs.Flags.{all-next, all-end}
+use Rattle.sound.proofs.InWords.{lines-next}
 use Rattle.sound.proofs.are_lines_sized.Statement.{statement}
 use Rattle.sound.proofs.are_lines_sized.Tie as tie
 
 abbrev Inv-loop : tie.InvT-loop
-Inv-loop n lines ok₀ k₀ ok k = (k ≤ 16) × ((ok && allOf (sizedLine n) (drop k lines)) ≡ allOf (sizedLine n) lines) × (length lines ≡ 16)
+Inv-loop w n ok₀ k₀ ok k = (k ≤ 16) × ((ok && allOf (sizedLine n) (drop k (linesFrom (wordIn w)))) ≡ allOf (sizedLine n) (linesFrom (wordIn w)))
 
 abbrev μ-loop : tie.MeasureT-loop
-μ-loop n lines ok₀ k₀ ok k = 16 - k
+μ-loop w n ok₀ k₀ ok k = 16 - k
 
 loop-holds : tie.Need-loop-holds Inv-loop μ-loop
-loop-holds c = (omega arith, refl, search (needs, length-mapped))
+loop-holds c = (omega arith, refl)
 
 mul-is-line-sized : tie.Need-mul-is-line-sized Inv-loop μ-loop
 mul-is-line-sized c = omega arith
 
-array-copy-out-is-line-sized : tie.Need-array-copy-out-is-line-sized Inv-loop μ-loop
-array-copy-out-is-line-sized c = omega arith
+add-is-line-sized : tie.Need-add-is-line-sized Inv-loop μ-loop
+add-is-line-sized c = omega arith
 
 is-line-sized-requires : tie.Need-is-line-sized-requires Inv-loop μ-loop
-is-line-sized-requires c κs = search needs
+is-line-sized-requires c κs = omega arith
 
 add-k : tie.Need-add-k Inv-loop μ-loop
 add-k c = omega arith
@@ -37,18 +38,18 @@ loop-less : tie.Need-loop-less Inv-loop μ-loop
 loop-less c = omega arith
 
 loop-again : tie.Need-loop-again Inv-loop μ-loop
-loop-again c = let L = c .before .before .before .loop in
-    let q = c .before .before .before .before .args .t1 in (
+loop-again c = let A = c .before .before .before .before .args in
+    let L = c .before .before .loop in (
       omega arith,
-      all-next (sizedLine (c .before .before .before .before .args .n)) q (L .k) (L .ok) _ _ (L .inv .1) (left-next q (L .k) noLine (omega arith)) (c .is-line-sized .ensures),
-      L .inv .2,
+      all-next (sizedLine (A .n)) (linesFrom (wordIn (A .w .now))) (L .k) (L .ok) _ _ (L .inv .1) (lines-next (wordIn (A .w .now)) (L .k) (c .before .loop-test .taken)) (c .is-line-sized .ensures),
     )
 
 returns : tie.Need-returns Inv-loop μ-loop
-returns c = let L = c .before .loop in
-    let q = c .before .before .args .t1 in
-    let over : length q ≤ L .k = omega arith in
-    all-end (sizedLine (c .before .before .args .n)) q (L .k) (L .ok) (L .inv .1) (drop-of-length-le q over)
+returns c = let A = c .before .before .before .args in
+    let L = c .before .loop in
+    let ls = linesFrom (wordIn (A .w .now)) in
+    let over : length ls ≤ L .k = omega (arith, length-listed (lineAt (wordIn (A .w .now))) 16) in
+    all-end (sizedLine (A .n)) ls (L .k) (L .ok) (L .inv .1) (drop-of-length-le ls over)
 
 pub are-lines-sized-spec : {M : Type 1} → statement M
 are-lines-sized-spec =
@@ -58,7 +59,7 @@ are-lines-sized-spec =
     μ-loop
     loop-holds
     mul-is-line-sized
-    array-copy-out-is-line-sized
+    add-is-line-sized
     is-line-sized-requires
     add-k
     loop-less

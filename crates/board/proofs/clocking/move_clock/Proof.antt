@@ -1,78 +1,78 @@
--- `move_clock` meets its contract: no timetable is left, or the clock is moved.
-use mathlib.Core.List.{List}
-use mathlib.Core.Path.{_≡_, _∙_, ap}
-use Prim.Native.Nat.{ℕ}
+-- `move_clock` meets its contract: 20 with the words that came, or each part of the board is what the definition says.
+use Prim.Native.Nat.{_-_}
 use native.Mathlib.Omega.{arith}
-use lib.ListN.{length}
-use borrow.Author.Tests.{not-true, not-false}
 use borrow.Author.Needs.{needs}
-use Rattle.lines.proofs.Lists.{length-mapped}
-use Rattle.sound.specs.Framed.{whole}
-use Rattle.board.specs.Calls.{refusal}
-use Rattle.board.proofs.Clocked.{rules-are, rules-few, rules-usable, none-left, moved}
-use Rattle.board.proofs.OnSound.{sized, lines-small, closed}
+use borrow.Author.Tests.{not-true, not-false}
+use Rattle.boardwords.proofs.Lent.{length-lent}
+use Rattle.board.proofs.InWords.{few-after, jobs-sized, closed-lent}
+use Rattle.board.proofs.Clocked.{start-fits, start-words, clocked-words}
 use Rattle.board.proofs.clocking.move_clock.Statement.{statement}
 use Rattle.board.proofs.clocking.move_clock.Tie as tie
 
-live-count-requires : tie.Need-live-count-requires
-live-count-requires c κs = sized _ (c .before .before .before .before .pre .1 .1)
+slice-read-start-rules : tie.Need-slice-read-start-rules
+slice-read-start-rules c = search needs
 
 add-start-rules : tie.Need-add-start-rules
-add-start-rules c = let s = c .before .before .before .before .before .before .pre .1 .1 in let h = s .horizon .1 in let d = s .lead in omega (arith, h, d)
+add-start-rules c = omega (arith, start-fits (c .before .before .args .w .now) (c .before .before .pre .0) (c .before .before .pre .1 .0) _ (c .before .before .pre .1 .1) (c .before .before .args .c) (c .before .before .pre .1 .2) (c .before .before .pre .1 .3))
 
 start-rules-requires : tie.Need-start-rules-requires
-start-rules-requires c κs = sized _ (c .before .before .before .before .before .before .pre .1 .1)
+start-rules-requires c κs = jobs-sized (c .before .before .args .w .now) (c .before .before .pre .1 .0) _ (c .before .before .pre .1 .1)
+
+sub-try-rules : tie.Need-sub-try-rules
+sub-try-rules c = search needs
+
+part-try-rules-start : tie.Need-part-try-rules-start
+part-try-rules-start c = search needs
+
+part-try-rules-end : tie.Need-part-try-rules-end
+part-try-rules-end c = search needs
+
+live-count-requires : tie.Need-live-count-requires
+live-count-requires c κs = jobs-sized (c .before .before .before .before .args .w .now) (c .before .before .before .before .pre .1 .0) _ (c .before .before .before .before .pre .1 .1)
 
 try-rules-requires : tie.Need-try-rules-requires
-try-rules-requires c κs = let s = c .before .before .before .before .before .before .before .pre .1 .1 in
-    let n = c .before .before .live-count .ensures in
-    let rules = c .start-rules .ensures in (
-      (c .before .before .before .before .before .before .before .pre .0, omega (arith, n, s .points), rw n (closed _ s)),
-      (rules-few _ s _ (c .before .before .before .before .before .before .before .pre .1 .3) _ rules, rw n (rules-usable _ s _ (c .before .before .before .before .before .before .before .pre .1 .3) _ rules)),
-    )
-
-refused-requires : tie.Need-refused-requires
-refused-requires c κs = search needs
+try-rules-requires c κs = let n = c .live-count .ensures in
+    let r = start-words (c .before .before .before .before .before .args .w .now) (c .before .before .before .before .before .pre .0) (c .before .before .before .before .before .pre .1 .0) _ (c .before .before .before .before .before .pre .1 .1) (c .before .before .before .before .before .args .c) (c .before .before .before .before .before .pre .1 .2) (c .before .before .before .before .before .pre .1 .3) _ (c .before .before .start-rules .ensures) in
+    ((length-lent (c .before .before .before .before .before .args .w .now) (c .before .before .before .before .before .pre .0), omega (arith, n, jobs-sized (c .before .before .before .before .before .args .w .now) (c .before .before .before .before .before .pre .1 .0) _ (c .before .before .before .before .before .pre .1 .1) .points), closed-lent (c .before .before .before .before .before .args .w .now) (c .before .before .before .before .before .pre .1 .0) _ (c .before .before .before .before .before .pre .1 .1) (c .before .before .before .before .before .pre .0) _ n), (r .0, r .1 _ n))
 
 same-length : tie.Need-same-length
 same-length c = search needs
 
 returns : tie.Need-returns
-returns c = let p = c .before .before .before .before .before .before .before .before .before .before .before .before .pre .1 in
-    let rules = rules-are _ (p .1) _ (p .3) _ (c .before .before .before .before .before .start-rules .ensures) in
-    let tried = c .before .before .before .before .try-rules .ensures in
-    let no = not-true _ (c .before .if1 .taken) in
-    c .refused .ensures _
-    ∙ ap (λ (l : List ℕ). refusal (whole (c .before .before .before .before .before .before .before .before .before .before .before .before .args .f) l) 20) (tried .1 no)
-    ∙ none-left _ _ (p .0) (p .2) (p .3) _ _ _ _ rules (c .before .before .before .before .before .before .before .live-count .ensures) (tried .0) no
+returns c = let no = not-true _ (c .if1 .taken) in
+    clocked-words (c .before .before .before .before .before .before .before .before .before .args .w .now) (c .before .before .before .before .before .before .before .before .before .pre .0) (c .before .before .before .before .before .before .before .before .before .pre .1 .0) _ (c .before .before .before .before .before .before .before .before .before .pre .1 .1) (c .before .before .before .before .before .before .before .before .before .args .c) (c .before .before .before .before .before .before .before .before .before .pre .1 .2) (c .before .before .before .before .before .before .before .before .before .pre .1 .3) _ _ _ _ (c .before .before .before .before .before .before .start-rules .ensures) (c .before .before .before .before .live-count .ensures) (c .before .before .before .try-rules .ensures .0) .0 no (c .before .before .before .try-rules .ensures .1 no)
 
 tidy-jobs-requires : tie.Need-tidy-jobs-requires
-tidy-jobs-requires c κs = c .before .before .before .before .before .before .before .before .before .before .before .pre .1 .1 .jobs
+tidy-jobs-requires c κs = jobs-sized (c .before .before .before .before .before .before .before .before .before .before .args .w .now) (c .before .before .before .before .before .before .before .before .before .before .pre .1 .0) _ (c .before .before .before .before .before .before .before .before .before .before .pre .1 .1) .count
+
+put-front-requires : tie.Need-put-front-requires
+put-front-requires c κs = search needs
 
 tidy-lines-requires : tie.Need-tidy-lines-requires
-tidy-lines-requires c κs = let size : length (c .before .before .before .before .before .before .before .before .before .before .before .before .args .f .lines) ≡ 16 = search (needs, length-mapped) in
-    lines-small _ (c .before .before .before .before .before .before .before .before .before .before .before .before .pre .1 .1) size
+tidy-lines-requires c κs = (search needs, few-after (c .before .before .before .before .before .before .before .before .before .before .before .before .before .before .before .args .w .now) (c .before .before .before .before .before .before .before .before .before .before .before .before .before .before .before .pre .1 .0) (c .before .before .before .before .before .before .before .before .before .before .before .before .before .before .before .pre .0) (c .before .before .before .before .before .before .before .before .before .try-rules .last .0) _ (c .before .before .before .before .tidy-jobs .result) (c .before .before .before .put-front .last .0) (c .before .before .before .put-front .ensures))
 
 same-length-2 : tie.Need-same-length-2
 same-length-2 c = search needs
 
 returns-2 : tie.Need-returns-2
-returns-2 c = let p = c .before .before .before .before .before .before .before .before .before .before .before .before .before .pre .1 in
-    let rules = rules-are _ (p .1) _ (p .3) _ (c .before .before .before .before .before .before .start-rules .ensures) in
-    moved _ _ (p .0) (p .2) (p .3) _ _ _ _ rules (c .before .before .before .before .before .before .before .before .live-count .ensures) (c .before .before .before .before .before .try-rules .ensures .0) _ _ (not-false _ (c .before .before .if1 .left)) (c .before .tidy-jobs .ensures) (c .tidy-lines .ensures)
+returns-2 c = clocked-words (c .before .before .before .before .before .before .before .before .before .before .before .before .before .before .before .before .before .before .args .w .now) (c .before .before .before .before .before .before .before .before .before .before .before .before .before .before .before .before .before .before .pre .0) (c .before .before .before .before .before .before .before .before .before .before .before .before .before .before .before .before .before .before .pre .1 .0) _ (c .before .before .before .before .before .before .before .before .before .before .before .before .before .before .before .before .before .before .pre .1 .1) (c .before .before .before .before .before .before .before .before .before .before .before .before .before .before .before .before .before .before .args .c) (c .before .before .before .before .before .before .before .before .before .before .before .before .before .before .before .before .before .before .pre .1 .2) (c .before .before .before .before .before .before .before .before .before .before .before .before .before .before .before .before .before .before .pre .1 .3) _ _ _ _ (c .before .before .before .before .before .before .before .before .before .before .before .before .before .before .before .start-rules .ensures) (c .before .before .before .before .before .before .before .before .before .before .before .before .before .live-count .ensures) (c .before .before .before .before .before .before .before .before .before .before .before .before .try-rules .ensures .0) .1 _ _ _ (not-false _ (c .before .before .before .before .before .before .before .before .before .if1 .left)) (c .before .before .before .before .before .before .before .tidy-jobs .ensures) (omega arith) (c .before .before .before .before .before .before .put-front .ensures) (c .before .before .tidy-lines .ensures)
 
 pub move-clock-spec : {M : Type 1} → statement M
 move-clock-spec =
     tie.close
     (tie.spec
-    live-count-requires
+    slice-read-start-rules
     add-start-rules
     start-rules-requires
+    sub-try-rules
+    part-try-rules-start
+    part-try-rules-end
+    live-count-requires
     try-rules-requires
-    refused-requires
     same-length
     returns
     tidy-jobs-requires
+    put-front-requires
     tidy-lines-requires
     same-length-2
     returns-2)

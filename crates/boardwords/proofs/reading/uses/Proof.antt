@@ -22,14 +22,14 @@ no-use-requires c κs = search needs
 loop-holds : tie.Need-loop-holds Inv-loop μ-loop
 loop-holds c = (omega arith, ap (replicate 32) (c .no-use .ensures) ∙ filled-none _ 32 _, search needs)
 
-mul-one-use : tie.Need-mul-one-use Inv-loop μ-loop
-mul-one-use c = omega arith
+mul-read-use : tie.Need-mul-read-use Inv-loop μ-loop
+mul-read-use c = omega arith
 
-add-one-use : tie.Need-add-one-use Inv-loop μ-loop
-add-one-use c = omega arith
+add-read-use : tie.Need-add-read-use Inv-loop μ-loop
+add-read-use c = omega arith
 
-one-use-requires : tie.Need-one-use-requires Inv-loop μ-loop
-one-use-requires c κs = omega arith
+read-use-requires : tie.Need-read-use-requires Inv-loop μ-loop
+read-use-requires c κs = omega arith
 
 mul-next : tie.Need-mul-next Inv-loop μ-loop
 mul-next c = omega arith
@@ -44,7 +44,7 @@ loop-less : tie.Need-loop-less Inv-loop μ-loop
 loop-less c = omega arith
 
 loop-again : tie.Need-loop-again Inv-loop μ-loop
-loop-again c = let L = c .before .before .loop in (omega arith, filled-next _ 32 _ (L .next) (L .k) _ (L .inv .1) (omega arith) (c .one-use .ensures), simp length-set (omega arith))
+loop-again c = let L = c .before .before .loop in (omega arith, filled-next _ 32 _ (L .next) (L .k) _ (L .inv .1) (omega arith) (c .read-use .ensures), simp length-set (omega arith))
 
 returns : tie.Need-returns Inv-loop μ-loop
 returns c = let L = c .before .loop in filled-done _ 32 _ (L .next) (L .k) (L .inv .1) (omega arith)
@@ -57,9 +57,9 @@ uses-spec =
     μ-loop
     no-use-requires
     loop-holds
-    mul-one-use
-    add-one-use
-    one-use-requires
+    mul-read-use
+    add-read-use
+    read-use-requires
     mul-next
     array-set-from-next
     add-k

@@ -16,6 +16,9 @@ slice-write-w-2 c = simp length-set (omega arith)
 slice-write-w-3 : tie.Need-slice-write-w-3
 slice-write-w-3 c = simp length-set (omega arith)
 
+counted-requires : tie.Need-counted-requires
+counted-requires c κs = search needs
+
 slice-write-w-4 : tie.Need-slice-write-w-4
 slice-write-w-4 c = simp length-set (omega arith)
 
@@ -23,9 +26,16 @@ same-length : tie.Need-same-length
 same-length c = search needs
 
 returns : tie.Need-returns
-returns c = put-four _ _ _ _ _
+returns c = put-four _ _ _ _ _ _ (c .counted .ensures)
 
 pub put-head-spec : {M : Type 1} → statement M
 put-head-spec =
     tie.close
-    (tie.spec slice-write-w slice-write-w-2 slice-write-w-3 slice-write-w-4 same-length returns)
+    (tie.spec
+    slice-write-w
+    slice-write-w-2
+    slice-write-w-3
+    counted-requires
+    slice-write-w-4
+    same-length
+    returns)

@@ -24,10 +24,10 @@ put-uses-requires : tie.Need-put-uses-requires
 put-uses-requires c κs = simp length-set (omega arith)
 
 same-length : tie.Need-same-length
-same-length c = let A = c .before .before .before .before .before .before .args in ap length (put-first (A .w .now) (A .at) _ _ _ _ (c .before .before .put-uses .ensures) (c .before .before .before .before .counted .ensures)) ∙ put-length _ _ _
+same-length c = let A = c .before .before .before .before .before .before .args in ap length (put-first (A .w .now) (A .at) _ _ _ _ (c .before .before .put-uses .ensures .0) (c .before .before .before .before .counted .ensures)) ∙ put-length _ _ _
 
 returns : tie.Need-returns
-returns c = put-first _ _ _ _ _ _ (c .before .before .put-uses .ensures) (c .before .before .before .before .counted .ensures)
+returns c = (put-first _ _ _ _ _ _ (c .before .before .put-uses .ensures .0) (c .before .before .before .before .counted .ensures), c .before .before .put-uses .ensures .1)
 
 pub put-line-spec : {M : Type 1} → statement M
 put-line-spec =

@@ -49,7 +49,7 @@ same-length : tie.Need-same-length Inv-loop μ-loop
 same-length c = omega arith
 
 returns : tie.Need-returns Inv-loop μ-loop
-returns c = let L = c .before .loop in let e : L .k ≡ 32 = omega arith in rw (← e) (L .inv .1)
+returns c = let L = c .before .loop in let e : L .k ≡ 32 = omega arith in (rw (← e) (L .inv .1), L .inv .3)
 
 pub put-uses-spec : {M : Type 1} → statement M
 put-uses-spec =

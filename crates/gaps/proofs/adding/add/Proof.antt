@@ -68,7 +68,7 @@ relax-row-requires c κs =
     let T = turn-at (c .before .before .before .before) in
     let few = c .before .before .before .before .before .before .before .before .before .before .before .before .pre .0 .2 .few-more in (
       (omega arith, omega arith, omega arith, omega (arith, c .before .before .before .before .before .before .before .before .before .before .wide .ensures), omega (arith, T .via-small), omega (arith, few)),
-      (T .direct-small, (T .row-small, (T .row-whole, T .row-behind))),
+      (T .cells-small, (T .row-small, (T .row-whole, T .row-behind))),
     )
 
 add-a : tie.Need-add-a Inv-loop μ-loop

@@ -3,7 +3,6 @@ use mathlib.Core.Path.{_≡_, _∙_}
 use Prim.Native.Nat.{_%_, _≤_, _-_, _+_, _*_}
 use native.Mathlib.Omega.{arith}
 use lib.ListN.{length, length-set}
-use borrow.Author.Needs.{needs}
 use Rattle.lists.proofs.Rewritten.{rewritten-none, store, ahead, done}
 use Rattle.lists.specs.Loops.{rewritten}
 use Rattle.gaps.specs.Cells.{relaxed}
@@ -38,13 +37,20 @@ element-copy-out-least : tie.Need-element-copy-out-least Inv-loop μ-loop
 element-copy-out-least c = omega arith
 
 add-least-2 : tie.Need-add-least-2 Inv-loop μ-loop
-add-least-2 c = omega (arith, c .before .before .before .before .before .pre .1 .0 (c .before .before .before .loop .b) (omega arith))
+add-least-2 c = omega (arith, c .before .before .before .before .before .pre .1 .1 .0 (c .before .before .before .loop .b) (omega arith))
 
 sub-least : tie.Need-sub-least Inv-loop μ-loop
-sub-least c = omega (arith, c .before .before .before .before .before .pre .1 .1 (c .before .before .before .loop .b) (omega arith))
+sub-least c = omega (arith, c .before .before .before .before .before .pre .1 .1 .1 (c .before .before .before .loop .b) (omega arith))
 
 least-requires : tie.Need-least-requires Inv-loop μ-loop
-least-requires c κs = search needs
+least-requires c κs =
+    let S = c .before .before .before .before .before in
+    let A = S .args in
+    let L = c .before .before .before .loop in
+    let f = relaxed (A .t .now) (A .row .now) (A .via) (A .cut) in
+    let at = A .a * 65 + L .b in
+    let still = ahead f (A .t .now) (L .t) (A .a * 65) at (L .inv .1) at (omega arith) in
+    (omega (arith, still, S .pre .1 .0 (L .b) (omega arith)), omega (arith, S .pre .1 .1 .0 (L .b) (omega arith)))
 
 add-t : tie.Need-add-t Inv-loop μ-loop
 add-t c = omega arith

@@ -1,5 +1,6 @@
 -- A row that no way across the rule can shorten is left as it is; every other is relaxed.
 use mathlib.Core.Path.{_≡_}
+use native.Mathlib.Omega.{arith}
 use borrow.Author.Needs.{needs}
 use Rattle.gaps.proofs.Added.{relaxed-same}
 use Rattle.gaps.proofs.adding.relax_row.Statement.{statement}
@@ -18,7 +19,7 @@ slice-read-if1 : tie.Need-slice-read-if1
 slice-read-if1 c = search needs
 
 add-if1-2 : tie.Need-add-if1-2
-add-if1-2 c = search needs
+add-if1-2 c = let S = c .before .before in omega (arith, S .pre .1 .0 (S .args .early) (omega arith))
 
 add-if1-3 : tie.Need-add-if1-3
 add-if1-3 c = search needs

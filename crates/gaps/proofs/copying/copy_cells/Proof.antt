@@ -1,6 +1,6 @@
 -- Cells copied. The loop's invariant: the first k are.
-use mathlib.Core.Path.{_≡_}
-use Prim.Native.Nat.{ℕ, _≤_, _-_, _+_}
+use mathlib.Core.Path.{_≡_, refl}
+use Prim.Native.Nat.{ℕ, _≤_, _-_}
 use native.Mathlib.Omega.{arith}
 use lib.ListN.{length, getD, length-set}
 use Rattle.lists.proofs.Rewritten.{rewritten-none, store, done}
@@ -9,25 +9,19 @@ use Rattle.gaps.proofs.copying.copy_cells.Statement.{statement}
 use Rattle.gaps.proofs.copying.copy_cells.Tie as tie
 
 abbrev Inv-loop : tie.InvT-loop
-Inv-loop next₀ to t from count k₀ next k = (k ≤ count) × (next ≡ rewritten (λ (i : ℕ). getD t (from + (i - to)) 0) next₀ to (to + k)) × (length next ≡ 4225)
+Inv-loop next₀ t count k₀ next k = (k ≤ count) × (next ≡ rewritten (λ (i : ℕ). getD t i 0) next₀ 0 k) × (length next ≡ length next₀)
 
 abbrev μ-loop : tie.MeasureT-loop
-μ-loop next₀ to t from count k₀ next k = count - k
+μ-loop next₀ t count k₀ next k = count - k
 
 loop-holds : tie.Need-loop-holds Inv-loop μ-loop
-loop-holds c = (omega arith, rewritten-none _ _ _ _ (omega arith), omega arith)
-
-add-next : tie.Need-add-next Inv-loop μ-loop
-add-next c = omega arith
+loop-holds c = (omega arith, rewritten-none _ _ 0 0 (omega arith), refl)
 
 mul-next : tie.Need-mul-next Inv-loop μ-loop
 mul-next c = omega arith
 
 shared-slice-read-next : tie.Need-shared-slice-read-next Inv-loop μ-loop
 shared-slice-read-next c = omega arith
-
-add-next-2 : tie.Need-add-next-2 Inv-loop μ-loop
-add-next-2 c = omega arith
 
 mul-next-2 : tie.Need-mul-next-2 Inv-loop μ-loop
 mul-next-2 c = omega arith
@@ -42,21 +36,20 @@ loop-less : tie.Need-loop-less Inv-loop μ-loop
 loop-less c = omega arith
 
 loop-again : tie.Need-loop-again Inv-loop μ-loop
-loop-again c = let L = c .before .before .loop in
+loop-again c =
+    let L = c .before .before .loop in
     let A = c .before .before .before .args in
-    let f : ℕ → ℕ = λ i. getD (A .t .now) (A .from + (i - A .to)) 0 in
-    let at = A .to + L .k in
-    let same : A .from + (at - A .to) ≡ A .from + L .k = omega arith in (
+    let f : ℕ → ℕ = λ i. getD (A .t .now) i 0 in (
       omega arith,
-      store f (A .next .now) (L .next) (A .to) at (L .inv .1) _ _ (omega arith) (omega arith) (omega arith) (rw same),
-      simp length-set (omega arith),
+      store f (A .next .now) (L .next) 0 (L .k) (L .inv .1) (f (L .k)) _ (omega arith) (omega arith) refl refl,
+      simp length-set (L .inv .2),
     )
 
 same-length : tie.Need-same-length Inv-loop μ-loop
 same-length c = omega arith
 
 returns : tie.Need-returns Inv-loop μ-loop
-returns c = done _ _ _ _ _ (c .before .loop .inv .1) _ (omega arith)
+returns c = done _ _ _ 0 _ (c .before .loop .inv .1) _ (omega arith)
 
 pub copy-cells-spec : {M : Type 1} → statement M
 copy-cells-spec =
@@ -65,10 +58,8 @@ copy-cells-spec =
     Inv-loop
     μ-loop
     loop-holds
-    add-next
     mul-next
     shared-slice-read-next
-    add-next-2
     mul-next-2
     slice-write-next
     add-k

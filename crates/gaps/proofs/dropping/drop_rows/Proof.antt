@@ -5,25 +5,22 @@ use native.Mathlib.Omega.{arith}
 use lib.ListN.{length}
 use Rattle.lists.proofs.Rewritten.{rewritten-none, done}
 use Rattle.lists.specs.Loops.{rewritten}
-use Rattle.stn.specs.Table.{pick, oldNumber}
-use Rattle.gaps.specs.Cells.{tableOf, overlay, overlaid}
+use Rattle.gaps.specs.Cells.{droppedCell}
 use Rattle.gaps.proofs.Dropped.{rows-next}
 use Rattle.gaps.proofs.dropping.drop_rows.Statement.{statement}
 use Rattle.gaps.proofs.dropping.drop_rows.Tie as tie
 
 abbrev Inv-loop : tie.InvT-loop
-Inv-loop next₀ t f m left a₀ next a = (a ≤ left)
-    × (next ≡ rewritten (overlay left (pick (oldNumber f m) (tableOf t)) next₀) next₀ 0 (a * 65))
-    × (length next ≡ 4225)
+Inv-loop t₀ f m left a₀ t a = (a ≤ left) × (t ≡ rewritten (droppedCell t₀ f m left) t₀ 0 (a * 65)) × (length t ≡ 4225)
 
 abbrev μ-loop : tie.MeasureT-loop
-μ-loop next₀ t f m left a₀ next a = left - a
+μ-loop t₀ f m left a₀ t a = left - a
 
 loop-holds : tie.Need-loop-holds Inv-loop μ-loop
 loop-holds c = (omega arith, rewritten-none _ _ 0 _ (omega arith), omega arith)
 
 drop-columns-requires : tie.Need-drop-columns-requires Inv-loop μ-loop
-drop-columns-requires c κs = (omega arith, omega arith, omega arith, omega arith, omega arith)
+drop-columns-requires c κs = (omega arith, omega arith, omega arith, omega arith)
 
 add-a : tie.Need-add-a Inv-loop μ-loop
 add-a c = omega arith
@@ -32,11 +29,12 @@ loop-less : tie.Need-loop-less Inv-loop μ-loop
 loop-less c = omega arith
 
 loop-again : tie.Need-loop-again Inv-loop μ-loop
-loop-again c = let A = c .before .before .before .before .before .before .before .before .args in
-    let L = c .before .before .before .before .before .loop in (
+loop-again c =
+    let A = c .before .before .before .before .before .before .before .args in
+    let L = c .before .before .before .before .before .loop in
+    let dropped = c .before .before .drop-columns in (
       omega arith,
-      rows-next (A .t .now) (A .next .now) (L .next) (c .before .before .drop-columns .last .0) (A .f) (A .m) (A .left) (L .a) (omega arith) (omega arith)
-          (omega arith) (L .inv .1) (c .before .before .drop-columns .ensures),
+      rows-next (A .t .now) (L .t) (dropped .last .0) (A .f) (A .m) (A .left) (L .a) (omega arith) (omega arith) (omega arith) (L .inv .1) (dropped .ensures),
       omega arith,
     )
 
@@ -44,7 +42,6 @@ same-length : tie.Need-same-length Inv-loop μ-loop
 same-length c = omega arith
 
 returns : tie.Need-returns Inv-loop μ-loop
-unfolding overlaid
 returns c = done _ _ _ 0 _ (c .before .loop .inv .1) _ (omega arith)
 
 pub drop-rows-spec : {M : Type 1} → statement M

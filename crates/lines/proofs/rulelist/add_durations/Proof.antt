@@ -3,14 +3,14 @@
 use Prim.Native.Nat.{ℕ, _≤_, _-_, _+_}
 use mathlib.Core.List.{[], _∷_, _++_}
 use mathlib.Core.Path.{_≡_, refl, sym, _∙_, ap}
-use lib.ListN.{drop, length, getD}
+use lib.ListN.{drop, length, getD, length-set}
 use native.Mathlib.Numerals.{add-one}
 use native.Mathlib.Omega.{arith}
 use borrow.Author.Needs.{needs}
 use Rattle.plain.specs.Plain.{durations}
 use Rattle.lines.specs.Held.{rulesOf, stepsOf, noStep}
 use Rattle.lines.proofs.Lists.{held-next, held-over, length-mapped}
-use Rattle.lines.proofs.RuleLaws.{Growing, grows, grown, Room-less, durations-next, durations-two}
+use Rattle.lines.proofs.RuleLaws.{Growing, grows, grown, Room-less, durations-next, durations-two, durations-stored}
 use Rattle.lines.proofs.rulelist.add_durations.Statement.{statement}
 use Rattle.lines.proofs.rulelist.add_durations.Tie as tie
 
@@ -19,12 +19,19 @@ Inv-loop x steps rules₀ at₀ k₀ k-end rules at k = (k ≤ k-end)
     × Growing (rulesOf rules₀ ++ durations x (stepsOf steps)) rules (durations at (drop k (stepsOf steps))) (16 - (k + k))
     × (at ≡ x + k)
     × (length (steps .steps) ≡ 8)
+    × (length (rules .rules) ≡ 82)
 
 abbrev μ-loop : tie.MeasureT-loop
 μ-loop x steps rules₀ at₀ k₀ k-end rules at k = k-end - k
 
 loop-holds : tie.Need-loop-holds Inv-loop μ-loop
-loop-holds c = (omega arith, record { runs = refl; room = c .pre .0 }, omega arith, search (needs, length-mapped))
+loop-holds c = (
+  omega arith,
+  record { runs = refl; room = c .pre .0 },
+  omega arith,
+  search (needs, length-mapped),
+  search (needs, length-mapped),
+)
 
 mul-step : tie.Need-mul-step Inv-loop μ-loop
 mul-step c = omega arith
@@ -32,8 +39,29 @@ mul-step c = omega arith
 element-copy-out-step : tie.Need-element-copy-out-step Inv-loop μ-loop
 element-copy-out-step c = omega arith
 
-add-duration-requires : tie.Need-add-duration-requires Inv-loop μ-loop
-add-duration-requires c κs = (Room-less (c .before .before .loop .inv .1 .room) 2 (omega arith), omega arith)
+least-rule-requires : tie.Need-least-rule-requires Inv-loop μ-loop
+least-rule-requires c κs = omega arith
+
+mul-rules : tie.Need-mul-rules Inv-loop μ-loop
+mul-rules c = omega (arith, c .before .before .before .loop .inv .1 .room .fits)
+
+element-set-from-rules : tie.Need-element-set-from-rules Inv-loop μ-loop
+element-set-from-rules c = omega (arith, c .before .before .before .loop .inv .1 .room .fits)
+
+most-rule-requires : tie.Need-most-rule-requires Inv-loop μ-loop
+most-rule-requires c κs = omega arith
+
+add-t12 : tie.Need-add-t12 Inv-loop μ-loop
+add-t12 c = omega (arith, c .before .before .before .before .loop .inv .1 .room .fits)
+
+mul-t19 : tie.Need-mul-t19 Inv-loop μ-loop
+mul-t19 c = omega (arith, c .before .before .before .before .loop .inv .1 .room .fits)
+
+element-set-from-rules-2 : tie.Need-element-set-from-rules-2 Inv-loop μ-loop
+element-set-from-rules-2 c = omega (arith, c .before .before .before .before .loop .inv .1 .room .fits)
+
+add-rules : tie.Need-add-rules Inv-loop μ-loop
+add-rules c = omega (arith, c .before .before .before .before .loop .inv .1 .room .fits)
 
 add-at : tie.Need-add-at Inv-loop μ-loop
 add-at c = omega arith
@@ -45,8 +73,8 @@ loop-less : tie.Need-loop-less Inv-loop μ-loop
 loop-less c = omega arith
 
 loop-again : tie.Need-loop-again Inv-loop μ-loop
-loop-again c = let L = c .before .before .before .loop in
-    let A = c .before .before .before .before .args in
+loop-again c = let L = c .before .before .before .before .loop in
+    let A = c .before .before .before .before .before .args in
     let s = getD (A .t3 .steps) (L .k) noStep in
     let later = drop (L .k + 1) (stepsOf (A .t3)) in
     let next : durations (L .at) (drop (L .k) (stepsOf (A .t3))) ≡ durations (L .at) (s ∷ []) ++ durations (L .at + 1) later =
@@ -54,10 +82,12 @@ loop-again c = let L = c .before .before .before .loop in
     ∙ durations-next (L .at) s later
     ∙ ap (λ (i : ℕ). durations (L .at) (s ∷ []) ++ durations i later) (sym (add-one (L .at))) in (
       omega arith,
-      grows (c .add-duration .result) (durations (L .at) (s ∷ [])) (durations (L .at + 1) later) 2 (16 - (L .k + 1 + (L .k + 1))) (L .inv .1) next
-          (c .add-duration .ensures) (durations-two (L .at) s) (omega arith),
+      grows _ (durations (L .at) (s ∷ [])) (durations (L .at + 1) later) 2 (16 - (L .k + 1 + (L .k + 1))) (L .inv .1) next
+          (durations-stored (L .rules) (L .at) s (c .before .least-rule .result) (c .most-rule .result) (Room-less (L .inv .1 .room) 2 (omega arith))
+          (c .before .least-rule .ensures) (c .most-rule .ensures)) (durations-two (L .at) s) (omega arith),
       omega arith,
       L .inv .3,
+      simp length-set (L .inv .4),
     )
 
 returns : tie.Need-returns Inv-loop μ-loop
@@ -75,7 +105,14 @@ add-durations-spec =
     loop-holds
     mul-step
     element-copy-out-step
-    add-duration-requires
+    least-rule-requires
+    mul-rules
+    element-set-from-rules
+    most-rule-requires
+    add-t12
+    mul-t19
+    element-set-from-rules-2
+    add-rules
     add-at
     add-k
     loop-less

@@ -1,6 +1,8 @@
 -- `are_over` meets its contract: the rule of the last point is looked up first, then those of the uses.
-use mathlib.Core.Path.{_∙_}
 use borrow.Author.Needs.{needs}
+use Rattle.plain.specs.Plain.{allEndBy}
+use Rattle.lines.specs.Held.{linesOf}
+use Rattle.boardwords.specs.Words.{wordIn, linesFrom}
 use Rattle.settling.proofs.Ended.{last-late, last-over}
 use Rattle.settling.proofs.ending.are_over.Statement.{statement}
 use Rattle.settling.proofs.ending.are_over.Tie as tie
@@ -24,13 +26,14 @@ shared-slice-read-if1 : tie.Need-shared-slice-read-if1
 shared-slice-read-if1 c = search needs
 
 returns : tie.Need-returns
-returns c = let A = c .before .before .before .args in last-late (A .t .now) (A .clock) _ _ (c .if1 .taken)
+returns c = let A = c .before .before .before .before .args in last-late (A .t .now) (A .clock) _ _ (c .if1 .taken)
 
 lines-end-requires : tie.Need-lines-end-requires
 lines-end-requires c κs = search needs
 
 returns-2 : tie.Need-returns-2
-returns-2 c = let A = c .before .before .before .before .args in c .lines-end .ensures ∙ last-over (A .t .now) (A .clock) _ _ (c .before .if1 .left)
+returns-2 c = let A = c .before .before .before .before .before .args in
+    last-over (A .t .now) (A .clock) _ (allEndBy (A .clock) (A .f) (A .m) (linesOf (linesFrom (wordIn (A .w .now))))) (c .lines-end .result) (c .lines-end .ensures) (c .before .if1 .left)
 
 pub are-over-spec : {M : Type 1} → statement M
 are-over-spec =

@@ -1,0 +1,228 @@
+-- A use put into a line that is in words.
+--   store-down        a loop that writes downwards: one more place below those that are written
+--   line-inserted     the line that is read afterwards;  beside-line: the other words are what they were
+-- The words afterwards: the count is one more; those of the uses before the place stay, those of the use stand at the place, and those of
+-- the uses behind it stand three words further up.
+use Prim.Native.Nat.{ℕ, zero, suc, _+_, _-_, _*_, _≤_, _<_}
+use mathlib.Core.Path.{_≡_, refl, sym, _∙_, ap}
+use mathlib.Core.List.{List, [], _∷_}
+use lib.ListN.{length, getD, set, length-set, List·getD-eq-default}
+use lib.Seq.{ext-getD, getD-set-same, getD-set-other}
+use native.Mathlib.Decide.{decLt}
+use native.Mathlib.Omega.{arith}
+use Rattle.lists.specs.Loops.{rewritten}
+use Rattle.lists.proofs.Rewritten.{rewritten-length, rewritten-in, rewritten-below, rewritten-from, rewritten-is}
+use Rattle.plain.specs.Plain.{noUse, inserted}
+use Rattle.plain.specs.declared.Use.{Use}
+use Rattle.lines.specs.declared.Line.{Line}
+use Rattle.lines.specs.Padded.{padded}
+use Rattle.lines.specs.Held.{lineOf, lineFrom as heldLine}
+use Rattle.lines.proofs.Padded.{length-padded, padded-at}
+use Rattle.lines.proofs.LineLaws.{length-inserted}
+use Rattle.boardwords.specs.Words.{wordIn, useAt, usesFrom, lineFrom}
+use Rattle.boardwords.specs.Codec.{useWords, put}
+use Rattle.boardwords.proofs.Listed.{length-listed, listed-at}
+use Rattle.boardwords.proofs.Put.{put-length}
+use Rattle.drafts.specs.Beside.{Tidy, Beside}
+use Rattle.boardwords.proofs.Back.{same-use}
+
+pub store-down :
+    (f : ℕ → ℕ) (l m : List ℕ) (p q r v : ℕ) → m ≡ rewritten f l r q → r ≡ p + 1 → p < q → q ≤ length l → v ≡ f p
+    → set m p v ≡ rewritten f l p q
+store-down f l m p q r v is next lt fits e =
+    rewritten-is f l (set m p v) p q (length-set m p v ∙ same) (λ k lo hi h. inside k lo hi h (decLt p k))
+    (λ k h. getD-set-other m p k v 0 (λ c. omega arith) ∙ rw is (rewritten-below f l r q k (omega arith)))
+    (λ k h. getD-set-other m p k v 0 (λ c. omega arith) ∙ rw is (rewritten-from f l r q k h))
+  where
+    same : length m ≡ length l
+    same = rw is (rewritten-length f l r q)
+
+    here : (k : ℕ) → k ≡ p → getD (set m p v) k 0 ≡ f k
+    here k s = rw s (getD-set-same m p v 0 (omega (arith, same)) ∙ e)
+
+    inside : (k : ℕ) → p ≤ k → k < q → k < length l → Dec (p < k) → getD (set m p v) k 0 ≡ f k
+    inside k lo hi h (yes gt) = getD-set-other m p k v 0 (λ c. omega arith) ∙ rw is (rewritten-in f l r q k (omega arith) hi h)
+    inside k lo hi h (no le) = here k (omega arith)
+
+-- ---- a list with one more
+
+module _ (u : Use) where
+  inserted-below : (l : List Use) (p k : ℕ) → k < p → p ≤ length l → getD (inserted p u l) k noUse ≡ getD l k noUse
+  unfolding inserted
+  inserted-below l zero k h hl = absurd (omega arith)
+  inserted-below [] (suc p) k h hl = absurd (omega arith)
+  inserted-below (b ∷ l) (suc p) zero h hl = refl
+  inserted-below (b ∷ l) (suc p) (suc k) h hl = inserted-below l p k (omega arith) (omega arith)
+
+  inserted-here : (l : List Use) (p : ℕ) → p ≤ length l → getD (inserted p u l) p noUse ≡ u
+  unfolding inserted
+  inserted-here l zero hl = refl
+  inserted-here [] (suc p) hl = absurd (omega arith)
+  inserted-here (b ∷ l) (suc p) hl = inserted-here l p (omega arith)
+
+  inserted-behind : (l : List Use) (p k : ℕ) → p ≤ k → p ≤ length l → getD (inserted p u l) (suc k) noUse ≡ getD l k noUse
+  unfolding inserted
+  inserted-behind l zero k h hl = refl
+  inserted-behind [] (suc p) k h hl = absurd (omega arith)
+  inserted-behind (b ∷ l) (suc p) zero h hl = absurd (omega arith)
+  inserted-behind (b ∷ l) (suc p) (suc k) h hl = inserted-behind l p k (omega arith) (omega arith)
+
+-- ---- three words written over a list
+
+module _ (w : List ℕ) (at : ℕ) (u : Use) where
+  put-below : (k : ℕ) → k < at → getD (put w at (useWords u)) k 0 ≡ getD w k 0
+  unfolding put
+  put-below k h =
+      getD-set-other (set (set w at (u .point)) (suc at) (u .offset)) (suc (suc at)) k (u .length) 0 (λ c. omega arith)
+      ∙ getD-set-other (set w at (u .point)) (suc at) k (u .offset) 0 (λ c. omega arith)
+      ∙ getD-set-other w at k (u .point) 0 (λ c. omega arith)
+
+  put-above : (k : ℕ) → at + 3 ≤ k → getD (put w at (useWords u)) k 0 ≡ getD w k 0
+  unfolding put
+  put-above k h =
+      getD-set-other (set (set w at (u .point)) (suc at) (u .offset)) (suc (suc at)) k (u .length) 0 (λ c. omega arith)
+      ∙ getD-set-other (set w at (u .point)) (suc at) k (u .offset) 0 (λ c. omega arith)
+      ∙ getD-set-other w at k (u .point) 0 (λ c. omega arith)
+
+  module _ (fits : at + 3 ≤ length w) where
+    put-point : (k : ℕ) → k ≡ at → getD (put w at (useWords u)) k 0 ≡ u .point
+    unfolding put
+    put-point k e =
+        rw e
+        (getD-set-other (set (set w at (u .point)) (suc at) (u .offset)) (suc (suc at)) at (u .length) 0 (λ c. omega arith)
+        ∙ getD-set-other (set w at (u .point)) (suc at) at (u .offset) 0 (λ c. omega arith)
+        ∙ getD-set-same w at (u .point) 0 (omega arith))
+
+    put-offset : (k : ℕ) → k ≡ suc at → getD (put w at (useWords u)) k 0 ≡ u .offset
+    unfolding put
+    put-offset k e =
+        rw e
+        (getD-set-other (set (set w at (u .point)) (suc at) (u .offset)) (suc (suc at)) (suc at) (u .length) 0 (λ c. omega arith)
+        ∙ getD-set-same (set w at (u .point)) (suc at) (u .offset) 0 (omega (arith, length-set w at (u .point))))
+
+    put-long : (k : ℕ) → k ≡ suc (suc at) → getD (put w at (useWords u)) k 0 ≡ u .length
+    unfolding put
+    put-long k e =
+        rw e
+        (getD-set-same (set (set w at (u .point)) (suc at) (u .offset)) (suc (suc at)) (u .length) 0
+        (omega (arith, length-set (set w at (u .point)) (suc at) (u .offset), length-set w at (u .point))))
+
+-- ---- the words afterwards
+
+module _
+    (W M P : List ℕ) (at place n : ℕ) (u : Use) (fits : at + 97 ≤ length W) (in-place : place ≤ n) (few : n < 32)
+    (moved : M ≡ rewritten (λ k. getD W (k - 3) 0) W (at + 1 + 3 * place + 3) (at + 1 + 3 * n + 3))
+    (stored : P ≡ put M (at + 1 + 3 * place) (useWords u)) where
+  abbrev shift : ℕ → ℕ
+  shift k = getD W (k - 3) 0
+
+  length-moved : length M ≡ length W
+  length-moved = rw moved (rewritten-length shift W (at + 1 + 3 * place + 3) (at + 1 + 3 * n + 3))
+
+  length-stored : length P ≡ length W
+  length-stored = rw stored (put-length M (at + 1 + 3 * place) (useWords u) ∙ length-moved)
+
+  other : (k : ℕ) → (k ≡ at → ⊥) → getD (set P at (n + 1)) k 0 ≡ getD (put M (at + 1 + 3 * place) (useWords u)) k 0
+  other k h = getD-set-other P at k (n + 1) 0 h ∙ rw stored refl
+
+  word-count : getD (set P at (n + 1)) at 0 ≡ n + 1
+  word-count = getD-set-same P at (n + 1) 0 (omega (arith, length-stored))
+
+  word-before : (k : ℕ) → (k ≡ at → ⊥) → k < at + 1 + 3 * place → getD (set P at (n + 1)) k 0 ≡ getD W k 0
+  word-before k h l =
+      other k h
+      ∙ put-below M (at + 1 + 3 * place) u k l
+      ∙ rw moved (rewritten-below shift W (at + 1 + 3 * place + 3) (at + 1 + 3 * n + 3) k (omega arith))
+
+  word-moved :
+      (k j : ℕ) → at + 1 + 3 * place + 3 ≤ k → k < at + 1 + 3 * n + 3 → k - 3 ≡ j → getD (set P at (n + 1)) k 0 ≡ getD W j 0
+  word-moved k j lo hi e =
+      other k (λ c. omega arith)
+      ∙ put-above M (at + 1 + 3 * place) u k lo
+      ∙ rw moved (rewritten-in shift W (at + 1 + 3 * place + 3) (at + 1 + 3 * n + 3) k lo hi (omega arith))
+      ∙ ap (λ (i : ℕ). getD W i 0) e
+
+  word-behind : (k : ℕ) → at + 1 + 3 * n + 3 ≤ k → getD (set P at (n + 1)) k 0 ≡ getD W k 0
+  word-behind k h =
+      other k (λ c. omega arith)
+      ∙ put-above M (at + 1 + 3 * place) u k (omega arith)
+      ∙ rw moved (rewritten-from shift W (at + 1 + 3 * place + 3) (at + 1 + 3 * n + 3) k h)
+
+  pub beside-line : Beside at (wordIn W) (wordIn (set P at (n + 1)))
+  beside-line = (λ k h. word-before k (λ c. omega arith) (omega arith), λ k h. word-behind k (omega arith))
+
+  abbrev now-use : ℕ → Use
+  now-use = useAt (wordIn (set P at (n + 1))) (at + 1)
+
+  abbrev old-use : ℕ → Use
+  old-use = useAt (wordIn W) (at + 1)
+
+  use-before : (i : ℕ) → i < place → now-use i ≡ old-use i
+  use-before i h =
+      same-use (old-use i) (word-before (at + 1 + 3 * i) (λ c. omega arith) (omega arith))
+      (word-before (at + 1 + 3 * i + 1) (λ c. omega arith) (omega arith)) (word-before (at + 1 + 3 * i + 2) (λ c. omega arith) (omega arith))
+
+  use-here : (i : ℕ) → i ≡ place → now-use i ≡ u
+  use-here i e =
+      let room : at + 1 + 3 * place + 3 ≤ length M = omega (arith, length-moved) in
+      same-use u (other (at + 1 + 3 * i) (λ c. omega arith) ∙ put-point M (at + 1 + 3 * place) u room (at + 1 + 3 * i) (omega arith))
+      (other (at + 1 + 3 * i + 1) (λ c. omega arith) ∙ put-offset M (at + 1 + 3 * place) u room (at + 1 + 3 * i + 1) (omega arith))
+      (other (at + 1 + 3 * i + 2) (λ c. omega arith) ∙ put-long M (at + 1 + 3 * place) u room (at + 1 + 3 * i + 2) (omega arith))
+
+  use-moved : (i : ℕ) → place ≤ i → i < n → now-use (suc i) ≡ old-use i
+  use-moved i lo hi =
+      same-use (old-use i) (word-moved (at + 1 + 3 * suc i) (at + 1 + 3 * i) (omega arith) (omega arith) (omega arith))
+      (word-moved (at + 1 + 3 * suc i + 1) (at + 1 + 3 * i + 1) (omega arith) (omega arith) (omega arith))
+      (word-moved (at + 1 + 3 * suc i + 2) (at + 1 + 3 * i + 2) (omega arith) (omega arith) (omega arith))
+
+  use-behind : (i : ℕ) → n < i → now-use i ≡ old-use i
+  use-behind i h =
+      same-use (old-use i) (word-behind (at + 1 + 3 * i) (omega arith)) (word-behind (at + 1 + 3 * i + 1) (omega arith))
+      (word-behind (at + 1 + 3 * i + 2) (omega arith))
+
+  module _ (count : n ≡ wordIn W at) (tidy : Tidy (lineFrom (wordIn W) at)) where
+    abbrev held : List Use
+    held = lineOf (lineFrom (wordIn W) at)
+
+    size : length held ≡ n
+    size = sym (count ∙ ap (λ (q : Line). q .count) tidy)
+
+    old-is : (i : ℕ) → i < 32 → old-use i ≡ getD held i noUse
+    old-is i h =
+        sym (listed-at old-use 32 i noUse h)
+        ∙ ap (λ (q : Line). getD (q .uses) i noUse) tidy
+        ∙ padded-at 32 noUse held i h
+
+    new-is : (i : ℕ) → i < 32 → now-use i ≡ getD (inserted place u held) i noUse
+    new-is i h = go i h (decLt i place)
+      where
+        none : (k : ℕ) → n ≤ k → getD held k noUse ≡ noUse
+        none k l = List·getD-eq-default held noUse {n = k} (omega (arith, size))
+
+        behind : (k : ℕ) → suc k < 32 → place ≤ k → Dec (k < n) → now-use (suc k) ≡ getD held k noUse
+        behind k l lo (yes lt) = use-moved k lo lt ∙ old-is k (omega arith)
+        behind k l lo (no ge) = use-behind (suc k) (omega arith) ∙ old-is (suc k) l ∙ none (suc k) (omega arith) ∙ sym (none k (omega arith))
+
+        beyond : (k : ℕ) → k < 32 → place < k → now-use k ≡ getD (inserted place u held) k noUse
+        beyond zero l lo = absurd (omega arith)
+        beyond (suc k) l lo = behind k l (omega arith) (decLt k n) ∙ sym (inserted-behind u held place k (omega arith) (omega (arith, size)))
+
+        upto : (k : ℕ) → k < 32 → place ≤ k → Dec (place < k) → now-use k ≡ getD (inserted place u held) k noUse
+        upto k l lo (yes gt) = beyond k l gt
+        upto k l lo (no le) =
+            let e : k ≡ place = omega arith in
+            use-here k e ∙ sym (ap (λ (i : ℕ). getD (inserted place u held) i noUse) e ∙ inserted-here u held place (omega (arith, size)))
+
+        go : (k : ℕ) → k < 32 → Dec (k < place) → now-use k ≡ getD (inserted place u held) k noUse
+        go k l (yes lt) = use-before k lt ∙ old-is k l ∙ sym (inserted-below u held place k lt (omega (arith, size)))
+        go k l (no ge) = upto k l (omega arith) (decLt place k)
+
+    pub line-inserted : lineFrom (wordIn (set P at (n + 1))) at ≡ heldLine (inserted place u held)
+    line-inserted =
+        let l : List Use = inserted place u held in
+        let count-is : wordIn (set P at (n + 1)) at ≡ length l = word-count ∙ omega (arith, length-inserted place u held, size) in
+        let len = length-listed now-use 32 in
+        let uses-are : usesFrom (wordIn (set P at (n + 1))) (at + 1) ≡ padded 32 noUse l =
+        ext-getD noUse (usesFrom (wordIn (set P at (n + 1))) (at + 1)) (padded 32 noUse l) (len ∙ sym (length-padded 32 noUse l))
+        (λ k h. listed-at now-use 32 k noUse (omega (arith, len)) ∙ new-is k (omega (arith, len)) ∙ sym (padded-at 32 noUse l k (omega (arith, len)))) in
+        rw (count-is, uses-are) refl

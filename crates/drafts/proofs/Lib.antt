@@ -1,0 +1,4 @@
+pub mod WordLaws
+pub mod InsertLaws
+pub mod PlaceLaws
+pub mod DraftLaws

@@ -1,0 +1,46 @@
+-- Lines that are read from words.
+--   lines-set     the words of one line changed: its line is another, and the others are what they were
+use Prim.Native.Nat.{ℕ, _+_, _*_, _≤_, _<_}
+use mathlib.Core.Path.{_≡_, sym, _∙_}
+use lib.ListN.{length, getD, set, length-set}
+use lib.Seq.{ext-getD, getD-set-same, getD-set-other}
+use native.Mathlib.Decide.{decLt}
+use native.Mathlib.Omega.{arith}
+use Rattle.lines.specs.declared.Line.{Line}
+use Rattle.lines.specs.Held.{noLine}
+use Rattle.boardwords.specs.Words.{Words, lineAt, linesFrom}
+use Rattle.boardwords.proofs.Listed.{length-listed}
+use Rattle.boardwords.proofs.Boards.{line-of, same-line}
+use Rattle.drafts.specs.Beside.{Beside}
+
+module _ (v w : Words) (r : ℕ) (h : r < 16) (beside : Beside (52 + 97 * r) v w) where
+  same-other : (k : ℕ) → (k ≡ r → ⊥) → lineAt w k ≡ lineAt v k
+  same-other k other = same-line w v (52 + 97 * k) (λ n a b. go n a b (decLt k r))
+    where
+      go : (n : ℕ) → 52 + 97 * k ≤ n → n < 52 + 97 * k + 97 → Dec (k < r) → w n ≡ v n
+      go n a b (yes lt) = beside .0 n (omega arith)
+      go n a b (no ge) =
+          let past : r < k = above k other ge in
+          beside .1 n (omega arith)
+        where
+          above : (k : ℕ) → (k ≡ r → ⊥) → (k < r → ⊥) → r < k
+          above k other ge = omega arith
+
+  pub lines-set : (new : Line) → lineAt w r ≡ new → linesFrom w ≡ set (linesFrom v) r new
+  lines-set new e =
+      let n : length (linesFrom w) ≡ 16 = length-listed (lineAt w) 16 in
+      let m : length (linesFrom v) ≡ 16 = length-listed (lineAt v) 16 in
+      ext-getD noLine (linesFrom w) (set (linesFrom v) r new) (n ∙ sym (length-set (linesFrom v) r new ∙ m))
+      (λ k l. line-of w k (omega arith) ∙ at k (omega arith) (decLt k r) (decLt r k))
+    where
+      same : (k : ℕ) → k < 16 → (k ≡ r → ⊥) → lineAt w k ≡ getD (set (linesFrom v) r new) k noLine
+      same k l other = same-other k other ∙ sym (getD-set-other (linesFrom v) r k new noLine other ∙ line-of v k l)
+
+      here : (k : ℕ) → k ≡ r → lineAt w k ≡ getD (set (linesFrom v) r new) k noLine
+      here k s =
+          rw s (e ∙ sym (getD-set-same (linesFrom v) r new noLine (omega (arith, length-listed (lineAt v) 16, h))))
+
+      at : (k : ℕ) → k < 16 → Dec (k < r) → Dec (r < k) → lineAt w k ≡ getD (set (linesFrom v) r new) k noLine
+      at k l (yes lt) d = same k l (λ s. omega arith)
+      at k l (no ge) (yes gt) = same k l (λ s. omega arith)
+      at k l (no ge) (no le) = here k (omega arith)

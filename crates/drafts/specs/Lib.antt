@@ -1,0 +1,3 @@
+pub mod Beside
+pub mod Turned
+pub mod DraftedAs

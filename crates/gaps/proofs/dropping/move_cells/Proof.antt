@@ -1,0 +1,80 @@
+-- Cells moved down. The loop's invariant: the first k are; those to read are still as they were.
+use mathlib.Core.Path.{_≡_, sym, _∙_, ap}
+use Prim.Native.Nat.{ℕ, _≤_, _-_, _+_}
+use native.Mathlib.Omega.{arith}
+use lib.ListN.{length, getD, length-set}
+use Rattle.lists.proofs.Rewritten.{rewritten-none, store, ahead, done}
+use Rattle.lists.specs.Loops.{rewritten}
+use Rattle.gaps.proofs.dropping.move_cells.Statement.{statement}
+use Rattle.gaps.proofs.dropping.move_cells.Tie as tie
+
+abbrev Inv-loop : tie.InvT-loop
+Inv-loop t₀ to from count k₀ t k = (k ≤ count) × (t ≡ rewritten (λ (i : ℕ). getD t₀ (from + (i - to)) 0) t₀ to (to + k)) × (length t ≡ 4225)
+
+abbrev μ-loop : tie.MeasureT-loop
+μ-loop t₀ to from count k₀ t k = count - k
+
+loop-holds : tie.Need-loop-holds Inv-loop μ-loop
+loop-holds c = (omega arith, rewritten-none _ _ _ _ (omega arith), omega arith)
+
+add-t : tie.Need-add-t Inv-loop μ-loop
+add-t c = omega arith
+
+mul-t : tie.Need-mul-t Inv-loop μ-loop
+mul-t c = omega arith
+
+slice-read-t : tie.Need-slice-read-t Inv-loop μ-loop
+slice-read-t c = omega arith
+
+add-t-2 : tie.Need-add-t-2 Inv-loop μ-loop
+add-t-2 c = omega arith
+
+mul-t-2 : tie.Need-mul-t-2 Inv-loop μ-loop
+mul-t-2 c = omega arith
+
+slice-write-t : tie.Need-slice-write-t Inv-loop μ-loop
+slice-write-t c = omega arith
+
+add-k : tie.Need-add-k Inv-loop μ-loop
+add-k c = omega arith
+
+loop-less : tie.Need-loop-less Inv-loop μ-loop
+loop-less c = omega arith
+
+loop-again : tie.Need-loop-again Inv-loop μ-loop
+loop-again c =
+    let L = c .before .before .loop in
+    let A = c .before .before .before .args in
+    let f : ℕ → ℕ = λ i. getD (A .t .now) (A .from + (i - A .to)) 0 in
+    let at = A .to + L .k in
+    let same : A .from + L .k ≡ A .from + (at - A .to) = omega arith in (
+      omega arith,
+      store f (A .t .now) (L .t) (A .to) at (L .inv .1) _ _ (omega arith) (omega arith) (omega arith)
+          (ahead f (A .t .now) (L .t) (A .to) at (L .inv .1) (A .from + L .k) (omega arith) ∙ ap (λ (i : ℕ). getD (A .t .now) i 0) same),
+      simp length-set (omega arith),
+    )
+
+same-length : tie.Need-same-length Inv-loop μ-loop
+same-length c = omega arith
+
+returns : tie.Need-returns Inv-loop μ-loop
+returns c = done _ _ _ _ _ (c .before .loop .inv .1) _ (omega arith)
+
+pub move-cells-spec : {M : Type 1} → statement M
+move-cells-spec =
+    tie.close
+    (tie.spec
+    Inv-loop
+    μ-loop
+    loop-holds
+    add-t
+    mul-t
+    slice-read-t
+    add-t-2
+    mul-t-2
+    slice-write-t
+    add-k
+    loop-less
+    loop-again
+    same-length
+    returns)

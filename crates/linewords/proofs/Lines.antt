@@ -1,0 +1,127 @@
+-- Laws of lines where they lie.
+--   same-use, no-words   a use is its three words
+--   cleared-put          a line whose count and first uses are written, and whose other places were cleared
+--   tidy-put             a line as it came, whose places not in use were cleared
+-- A loop over all lines that changes each by h:
+--   changed, turned      the lines as they will be, and the words after k turns
+--   lines-ahead          line k is still as it came;  lines-few: and has at most 32 uses
+--   lines-turn, lines-done   a turn, and the end
+use Prim.Native.Nat.{ℕ, _+_, _*_, _<_, _≤_}
+use mathlib.Core.Path.{_≡_, refl, sym, _∙_, ap}
+use mathlib.Core.List.{List, map}
+use lib.ListN.{length, getD, List·getD-eq-default}
+use native.Mathlib.Decide.{decLt}
+use native.Mathlib.Omega.{arith}
+use Rattle.plain.specs.declared.Use.{Use}
+use Rattle.plain.specs.Plain.{noUse}
+use Rattle.lines.specs.declared.Line.{Line}
+use Rattle.lines.specs.Held.{lineOf, noLine, lineFrom as heldLine}
+use Rattle.lines.proofs.Lists.{map-at}
+use Rattle.lists.specs.Loops.{rewritten}
+use Rattle.lists.proofs.Rewritten.{rewritten-length, rewritten-in, rewritten-below, rewritten-from}
+use Rattle.boardwords.specs.Words.{Words, wordIn, useFrom, useAt, lineFrom, lineAt, linesFrom}
+use Rattle.boardwords.specs.Codec.{joined, lineWords, put}
+use Rattle.boardwords.proofs.Listed.{length-listed, listed-at}
+use Rattle.boardwords.proofs.Boards.{held-size, held-use, same-line}
+use Rattle.boardwords.proofs.Blocks.{length-joined}
+use Rattle.boardwords.proofs.Put.{put-line-turn, length-line, put-from}
+use Rattle.linewords.proofs.Places.{line-put}
+
+-- a use is its three words
+pub same-use :
+    (v w : Words) (a b : ℕ) → v a ≡ w b → v (a + 1) ≡ w (b + 1) → v (a + 2) ≡ w (b + 2) → useFrom v a ≡ useFrom w b
+same-use v w a b p q r = rw (p, q, r)
+
+pub no-words : (v : Words) (a : ℕ) → v a ≡ 0 → v (a + 1) ≡ 0 → v (a + 2) ≡ 0 → useFrom v a ≡ noUse
+no-words v a p q r = rw (p, q, r)
+
+-- ---- a line
+
+-- a line whose first words, of the count and of the uses us, are there, and whose others were cleared
+pub cleared-put :
+    (w y x : List ℕ) (at n : ℕ) (us : List Use) → n ≡ length us → n ≤ 32 → at + 97 ≤ length w → length y ≡ length w
+    → wordIn y at ≡ n → ((m : ℕ) → m < n → useAt (wordIn y) (at + 1) m ≡ getD us m noUse)
+    → ((k : ℕ) → k < at → wordIn y k ≡ wordIn w k) → ((k : ℕ) → at + 97 ≤ k → wordIn y k ≡ wordIn w k)
+    → x ≡ rewritten (λ k. 0) y (at + 1 + 3 * n) (at + 97) → x ≡ put w at (lineWords (heldLine us))
+cleared-put w y x at n us size few room len count uses below from is =
+    line-put w x at us (omega arith) (size-x ∙ len) room (early at (omega arith) ∙ count ∙ size) each
+    (λ k h. early k (omega arith) ∙ below k h) (λ k h. late k h ∙ from k h)
+  where
+    z : ℕ → ℕ
+    z k = 0
+
+    size-x : length x ≡ length y
+    size-x = ap length is ∙ rewritten-length z y (at + 1 + 3 * n) (at + 97)
+
+    early : (k : ℕ) → k < at + 1 + 3 * n → wordIn x k ≡ wordIn y k
+    early k h = ap (λ (l : List ℕ). getD l k 0) is ∙ rewritten-below z y (at + 1 + 3 * n) (at + 97) k h
+
+    late : (k : ℕ) → at + 97 ≤ k → wordIn x k ≡ wordIn y k
+    late k h = ap (λ (l : List ℕ). getD l k 0) is ∙ rewritten-from z y (at + 1 + 3 * n) (at + 97) k h
+
+    clear : (k : ℕ) → at + 1 + 3 * n ≤ k → k < at + 97 → wordIn x k ≡ 0
+    clear k lo hi = ap (λ (l : List ℕ). getD l k 0) is ∙ rewritten-in z y (at + 1 + 3 * n) (at + 97) k lo hi (omega (arith, len))
+
+    go : (m : ℕ) → m < 32 → Dec (m < n) → useAt (wordIn x) (at + 1) m ≡ getD us m noUse
+    go m h (yes lt) =
+        same-use (wordIn x) (wordIn y) (at + 1 + 3 * m) (at + 1 + 3 * m) (early (at + 1 + 3 * m) (omega arith))
+        (early (at + 1 + 3 * m + 1) (omega arith)) (early (at + 1 + 3 * m + 2) (omega arith))
+        ∙ uses m lt
+    go m h (no ge) =
+        no-words (wordIn x) (at + 1 + 3 * m) (clear (at + 1 + 3 * m) (omega arith) (omega arith))
+        (clear (at + 1 + 3 * m + 1) (omega arith) (omega arith)) (clear (at + 1 + 3 * m + 2) (omega arith) (omega arith))
+        ∙ sym (List·getD-eq-default us noUse {n = m} (omega arith))
+
+    each : (m : ℕ) → m < 32 → useAt (wordIn x) (at + 1) m ≡ getD us m noUse
+    each m h = go m h (decLt m n)
+
+pub tidy-put :
+    (w x : List ℕ) (at : ℕ) → at + 97 ≤ length w → wordIn w at ≤ 32
+    → x ≡ rewritten (λ k. 0) w (at + 1 + 3 * wordIn w at) (at + 97)
+    → x ≡ put w at (lineWords (heldLine (lineOf (lineFrom (wordIn w) at))))
+tidy-put w x at room few is =
+    cleared-put w w x at (wordIn w at) (lineOf (lineFrom (wordIn w) at)) (sym (held-size (wordIn w) at few)) few room refl refl
+    (λ m h. sym (held-use (wordIn w) at m h (omega arith))) (λ k h. refl) (λ k h. refl) is
+
+-- ---- all lines
+
+module _ (h : Line → Line) (w₀ : List ℕ) where
+  -- the lines as they will be
+  abbrev pub changed : List Line
+  changed = map h (linesFrom (wordIn w₀))
+
+  abbrev pub turned : ℕ → List ℕ
+  turned k = put w₀ 52 (joined (λ i. lineWords (getD changed i noLine)) k)
+
+  changed-at : (k : ℕ) → k < 16 → getD changed k noLine ≡ h (lineAt (wordIn w₀) k)
+  changed-at k l =
+      map-at h (linesFrom (wordIn w₀)) k noLine noLine (omega (arith, length-listed (lineAt (wordIn w₀)) 16))
+      ∙ ap h (listed-at (lineAt (wordIn w₀)) 16 k noLine l)
+
+  -- line k is still what it was
+  pub lines-ahead : (w : List ℕ) (k : ℕ) → w ≡ turned k → lineAt (wordIn w) k ≡ lineAt (wordIn w₀) k
+  lines-ahead w k is =
+      let f : ℕ → List ℕ = λ i. lineWords (getD changed i noLine) in
+      let size : length (joined f k) ≡ 97 * k = length-joined f 97 k (λ i. length-line (getD changed i noLine)) in
+      same-line (wordIn w) (wordIn w₀) (52 + 97 * k)
+      (λ i l m. ap (λ (q : List ℕ). getD q i 0) is ∙ put-from w₀ 52 (joined f k) i (omega (arith, size)))
+
+  pub lines-turn :
+      (w x : List ℕ) (k : ℕ) → w ≡ turned k → k < 16 → x ≡ put w (52 + 97 * k) (lineWords (h (lineAt (wordIn w) k)))
+      → x ≡ turned (k + 1)
+  lines-turn w x k is l new =
+      put-line-turn changed w₀ 52 k w x is
+      (new ∙ ap (λ (q : Line). put w (52 + 97 * k) (lineWords q)) (ap h (lines-ahead w k is) ∙ sym (changed-at k l)))
+
+  -- a line that is not reached yet has at most 32 uses
+  pub lines-few :
+      (w : List ℕ) (k : ℕ) → w ≡ turned k → k < 16 → ((i : ℕ) → getD (linesFrom (wordIn w₀)) i noLine .count ≤ 32)
+      → wordIn w (52 + 97 * k) ≤ 32
+  lines-few w k is l few =
+      let ahead : wordIn w (52 + 97 * k) ≡ wordIn w₀ (52 + 97 * k) = ap (λ (q : Line). q .count) (lines-ahead w k is) in
+      let first : getD (linesFrom (wordIn w₀)) k noLine .count ≡ wordIn w₀ (52 + 97 * k) =
+      ap (λ (q : Line). q .count) (listed-at (lineAt (wordIn w₀)) 16 k noLine l) in
+      omega (arith, ahead, first, few k)
+
+  pub lines-done : (w : List ℕ) (k : ℕ) (ls : List Line) → w ≡ turned k → k ≡ 16 → changed ≡ ls → w ≡ put w₀ 52 (joined (λ i. lineWords (getD ls i noLine)) 16)
+  lines-done w k ls is e same = is ∙ ap turned e ∙ ap (λ (q : List Line). put w₀ 52 (joined (λ i. lineWords (getD q i noLine)) 16)) same

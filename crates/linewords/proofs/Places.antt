@@ -1,0 +1,80 @@
+-- Words at the place that a list was written to (boardwords has those outside of it).
+--   put-at                the words at it
+--   put-is                words that are so are those that were written
+--   line-put              words that hold a line at `at`, and are as they were elsewhere
+use Prim.Native.Nat.{ℕ, zero, suc, _+_, _-_, _<_, _≤_}
+use mathlib.Core.Path.{_≡_, sym, _∙_, ap, ap₂}
+use mathlib.Core.List.{List, [], _∷_}
+use lib.ListN.{length, getD, set, length-set}
+use lib.Seq.{ext-getD, getD-set-same}
+use native.Mathlib.Decide.{decLt}
+use native.Mathlib.Omega.{arith}
+use Rattle.plain.specs.declared.Use.{Use}
+use Rattle.plain.specs.Plain.{noUse}
+use Rattle.lines.specs.Held.{lineFrom as heldLine}
+use Rattle.lines.specs.Padded.{padded}
+use Rattle.lines.proofs.Padded.{length-padded, padded-at}
+use Rattle.boardwords.specs.Words.{wordIn, listed, useAt, usesFrom}
+use Rattle.boardwords.specs.Codec.{usesWords, lineWords, put}
+use Rattle.boardwords.proofs.Listed.{length-listed, listed-same, listed-at, listed-back}
+use Rattle.boardwords.proofs.Put.{put-length, put-below, put-from}
+use Rattle.boardwords.proofs.Inverse.{counted-is, uses-read}
+
+pub put-at :
+    (w : List ℕ) (at : ℕ) (l : List ℕ) (k i : ℕ) → k ≡ at + i → i < length l → at + length l ≤ length w → getD (put w at l) k 0 ≡ getD l i 0
+unfolding put
+put-at w at [] k i e h room = absurd (omega arith)
+put-at w at (x ∷ l) k zero e h room =
+    let is : k ≡ at = omega arith in
+    rw is (put-below (set w at x) (suc at) l at (omega arith) ∙ getD-set-same w at x 0 (omega arith))
+put-at w at (x ∷ l) k (suc i) e h room =
+    put-at (set w at x) (suc at) l k i (omega arith) (omega arith) (omega (arith, length-set w at x))
+
+pub put-is :
+    (w x : List ℕ) (at : ℕ) (l : List ℕ) → length x ≡ length w → at + length l ≤ length w
+    → ((i : ℕ) → i < length l → getD x (at + i) 0 ≡ getD l i 0) → ((k : ℕ) → k < at → getD x k 0 ≡ getD w k 0)
+    → ((k : ℕ) → at + length l ≤ k → getD x k 0 ≡ getD w k 0) → x ≡ put w at l
+put-is w x at l e room inside below from =
+    ext-getD 0 x (put w at l) (e ∙ sym (put-length w at l)) (λ k h. go k (decLt k at) (decLt k (at + length l)))
+  where
+    go : (k : ℕ) → Dec (k < at) → Dec (k < at + length l) → getD x k 0 ≡ getD (put w at l) k 0
+    go k (yes lt) d = below k lt ∙ sym (put-below w at l k lt)
+    go k (no ge) (yes lt) =
+        let is : k ≡ at + (k - at) = omega arith in
+        ap (λ (j : ℕ). getD x j 0) is
+        ∙ inside (k - at) (omega arith)
+        ∙ sym (put-at w at l k (k - at) is (omega arith) room)
+    go k (no ge) (no past) = from k (omega arith) ∙ sym (put-from w at l k (omega arith))
+
+-- the words of the line that holds these uses, read one by one
+line-at :
+    (x : List ℕ) (at : ℕ) (us : List Use) → length us ≤ 32 → wordIn x at ≡ length us
+    → ((m : ℕ) → m < 32 → useAt (wordIn x) (at + 1) m ≡ getD us m noUse)
+    → lineWords (heldLine us) ≡ wordIn x at ∷ listed (λ j. wordIn x (at + 1 + j)) 96
+line-at x at us few count uses =
+    let same : usesFrom (wordIn x) (at + 1) ≡ padded 32 noUse us =
+    listed-same (useAt (wordIn x) (at + 1)) (λ m. getD (padded 32 noUse us) m noUse) 32 (λ m h. uses m h ∙ sym (padded-at 32 noUse us m h))
+    ∙ listed-back (padded 32 noUse us) 32 noUse (length-padded 32 noUse us) in
+    ap₂ (λ (a : ℕ) (l : List ℕ). a ∷ l) (counted-is (length us) (omega arith) ∙ sym count)
+    (ap usesWords (sym same) ∙ uses-read (wordIn x) (at + 1))
+
+pub line-put :
+    (w x : List ℕ) (at : ℕ) (us : List Use) → length us ≤ 32 → length x ≡ length w → at + 97 ≤ length w → wordIn x at ≡ length us
+    → ((m : ℕ) → m < 32 → useAt (wordIn x) (at + 1) m ≡ getD us m noUse) → ((k : ℕ) → k < at → getD x k 0 ≡ getD w k 0)
+    → ((k : ℕ) → at + 97 ≤ k → getD x k 0 ≡ getD w k 0) → x ≡ put w at (lineWords (heldLine us))
+line-put w x at us few e room count uses below from =
+    put-is w x at l e (omega (arith, size)) inside below (λ k h. from k (omega (arith, size))) ∙ ap (put w at) (sym (line-at x at us few count uses))
+  where
+    f : ℕ → ℕ
+    f j = wordIn x (at + 1 + j)
+
+    l : List ℕ
+    l = wordIn x at ∷ listed f 96
+
+    size : length l ≡ 97
+    size = ap suc (length-listed f 96)
+
+    inside : (i : ℕ) → i < length l → getD x (at + i) 0 ≡ getD l i 0
+    inside zero h = ap (λ (j : ℕ). getD x j 0) {x = at + 0} {y = at} (omega arith)
+    inside (suc i) h =
+        ap (λ (j : ℕ). getD x j 0) {x = at + suc i} {y = at + 1 + i} (omega arith) ∙ sym (listed-at f 96 i 0 (omega (arith, size)))

@@ -1,0 +1,134 @@
+-- Laws of uses that are moved to the front where they lie.
+--   left        what stays of the first k uses;  left-few: no more than k
+--   thin-none   the loop's start
+--   thin-more   its turn: use k is read, as it was at first, and what stays of it written behind what stays of those before it
+--   stay-put    a line whose uses were moved to the front, whose count was stored and whose other places were cleared
+use Prim.Native.Nat.{ℕ, _+_, _*_, _<_, _≤_}
+use mathlib.Core.Path.{_≡_, refl, sym, _∙_, ap, subst}
+use mathlib.Core.List.{List, [], _∷_, _++_}
+use lib.ListN.{length, getD, set, take, length-set, length-take, length-append, List·getD-append}
+use lib.Seq.{take-suc, getD-set-same, getD-set-other}
+use native.Mathlib.Decide.{decLt}
+use native.Mathlib.Numerals.{add-one}
+use native.Mathlib.Omega.{arith}
+use Rattle.plain.specs.declared.Use.{Use}
+use Rattle.plain.specs.Plain.{noUse, staying}
+use Rattle.lines.specs.Held.{lineOf, lineFrom as heldLine}
+use Rattle.lines.proofs.LeavingLaws.{few-stay, staying-append}
+use Rattle.lists.specs.Loops.{rewritten}
+use Rattle.boardwords.specs.Words.{wordIn, useFrom, useAt, usesFrom, lineFrom}
+use Rattle.boardwords.specs.Codec.{useWords, lineWords, put}
+use Rattle.boardwords.proofs.Listed.{length-listed, listed-at, past}
+use Rattle.linewords.specs.Thinned.{Thinned}
+use Rattle.boardwords.proofs.Boards.{held-size}
+use Rattle.boardwords.proofs.Put.{put-below, put-from}
+use Rattle.linewords.proofs.Places.{put-at}
+use Rattle.linewords.proofs.Lines.{same-use, cleared-put}
+
+module _ (f m : ℕ) (w₀ : List ℕ) (at : ℕ) where
+  abbrev pub left : ℕ → List Use
+  left k = staying f m (take k (usesFrom (wordIn w₀) at))
+
+  pub left-few : (k : ℕ) → length (left k) ≤ k
+  left-few k = let us : List Use = usesFrom (wordIn w₀) at in omega (arith, few-stay f m (take k us), length-take k us)
+
+  pub thin-size : 0 ≡ length (left 0)
+  unfolding staying
+  thin-size = refl
+
+  pub thin-none : Thinned w₀ w₀ at 0 (left 0)
+  unfolding staying
+  thin-none = record { uses = λ i h. absurd (omega arith); before = λ k h. refl; behind = λ k h. refl }
+
+  -- one more use, and what stays of it
+  left-more : (k : ℕ) → k < 32 → left (k + 1) ≡ left k ++ staying f m (useAt (wordIn w₀) at k ∷ [])
+  left-more k h =
+      let us : List Use = usesFrom (wordIn w₀) at in
+      let size : length us ≡ 32 = length-listed (useAt (wordIn w₀) at) 32 in
+      ap left (add-one k)
+      ∙ ap (staying f m) (take-suc us k noUse (omega arith))
+      ∙ ap (λ (u : Use). staying f m (take k us ++ (u ∷ []))) (listed-at (useAt (wordIn w₀) at) 32 k noUse h)
+      ∙ staying-append f m (take k us) (useAt (wordIn w₀) at k ∷ [])
+
+  -- the words x are w with the use v in place n
+  module _ (w x : List ℕ) (n : ℕ) (v : Use) (room : at + 3 * n + 3 ≤ length w) (is : x ≡ put w (at + 3 * n) (useWords v)) where
+    word-below : (k : ℕ) → k < at + 3 * n → wordIn x k ≡ wordIn w k
+    word-below k h = ap (λ (l : List ℕ). getD l k 0) is ∙ put-below w (at + 3 * n) (useWords v) k h
+
+    word-from : (k : ℕ) → at + 3 * n + 3 ≤ k → wordIn x k ≡ wordIn w k
+    word-from k h = ap (λ (l : List ℕ). getD l k 0) is ∙ put-from w (at + 3 * n) (useWords v) k h
+
+    word-at : (k i : ℕ) → k ≡ at + 3 * n + i → i < 3 → wordIn x k ≡ getD (useWords v) i 0
+    word-at k i e h = ap (λ (l : List ℕ). getD l k 0) is ∙ put-at w (at + 3 * n) (useWords v) k i e h room
+
+    use-below : (i : ℕ) → i < n → useAt (wordIn x) at i ≡ useAt (wordIn w) at i
+    use-below i h =
+        same-use (wordIn x) (wordIn w) (at + 3 * i) (at + 3 * i) (word-below (at + 3 * i) (omega arith))
+        (word-below (at + 3 * i + 1) (omega arith)) (word-below (at + 3 * i + 2) (omega arith))
+
+    use-at : useAt (wordIn x) at n ≡ v
+    use-at =
+        let p : wordIn x (at + 3 * n) ≡ v .point = word-at (at + 3 * n) 0 (omega arith) (omega arith) in
+        let q : wordIn x (at + 3 * n + 1) ≡ v .offset = word-at (at + 3 * n + 1) 1 refl (omega arith) in
+        let r : wordIn x (at + 3 * n + 2) ≡ v .length = word-at (at + 3 * n + 2) 2 refl (omega arith) in
+        three v p q r
+      where
+        three : (u : Use) {a b c : ℕ} → a ≡ u .point → b ≡ u .offset → c ≡ u .length → record { point = a; offset = b; length = c } ≡ u
+        three u p q r = rw (p, q, r)
+
+    -- the uses us stood there, and behind them comes what stays of one use: o
+    thin-next :
+        (k : ℕ) (us o : List Use) → n ≤ k → n ≡ length us → length o ≤ 1 → v ≡ getD o 0 noUse → Thinned w₀ w at k us
+        → Thinned w₀ x at (k + 1) (us ++ o)
+    thin-next k us o le size one ev t =
+        record {
+          uses = λ i h. go i (omega (arith, length-append us o)) (decLt i n);
+          before = λ i h. word-below i (omega arith) ∙ t .before i h;
+          behind = λ i h. word-from i (omega arith) ∙ t .behind i (omega arith);
+        }
+      where
+        go : (i : ℕ) → i < length us + length o → Dec (i < n) → useAt (wordIn x) at i ≡ getD (us ++ o) i noUse
+        go i h (yes lt) = use-below i lt ∙ t .uses i (omega arith) ∙ sym (List·getD-append us o noUse i (omega arith))
+        go i h (no ge) =
+            let e : i ≡ n = omega arith in
+            ap (useAt (wordIn x) at) e ∙ use-at ∙ ev ∙ sym (past us o i 0 noUse (omega arith))
+
+  pub thin-more :
+      (w x : List ℕ) (n k : ℕ) (u v : Use) (c : ℕ) → at + 96 ≤ length w → k < 32 → n ≡ length (left k) → Thinned w₀ w at k (left k)
+      → u ≡ useFrom (wordIn w) (at + 3 * k) → v ≡ getD (staying f m (u ∷ [])) 0 noUse → c ≡ length (staying f m (u ∷ []))
+      → x ≡ put w (at + 3 * n) (useWords v) → (n + c ≡ length (left (k + 1))) × Thinned w₀ x at (k + 1) (left (k + 1))
+  thin-more w x n k u v c room h size t eu ev ec is =
+      let o : List Use = staying f m (u ∷ []) in
+      let read : u ≡ useAt (wordIn w₀) at k =
+      eu
+      ∙ same-use (wordIn w) (wordIn w₀) (at + 3 * k) (at + 3 * k) (t .behind (at + 3 * k) (omega arith))
+      (t .behind (at + 3 * k + 1) (omega arith)) (t .behind (at + 3 * k + 2) (omega arith)) in
+      let all : left k ++ o ≡ left (k + 1) = sym (left-more k h ∙ ap (λ (a : Use). left k ++ staying f m (a ∷ [])) (sym read)) in
+      let le : n ≤ k = omega (arith, left-few k) in
+      let total : length (left k ++ o) ≡ length (left k) + length o = length-append (left k) o in
+      let sum : n + c ≡ length (left k ++ o) = omega (arith, total) in (
+        sum ∙ ap length all,
+        subst (Thinned w₀ x at (k + 1)) all (thin-next w x n v (omega arith) is k (left k) o le size (few-stay f m (u ∷ [])) ev t),
+      )
+
+pub stay-put :
+    (f m : ℕ) (w y x : List ℕ) (at n : ℕ) → at + 97 ≤ length w → wordIn w at ≤ 32 → length y ≡ length w
+    → n ≡ length (staying f m (lineOf (lineFrom (wordIn w) at)))
+    → Thinned w y (at + 1) (wordIn w at) (staying f m (lineOf (lineFrom (wordIn w) at)))
+    → x ≡ rewritten (λ k. 0) (set y at n) (at + 1 + 3 * n) (at + 97)
+    → x ≡ put w at (lineWords (heldLine (staying f m (lineOf (lineFrom (wordIn w) at)))))
+stay-put f m w y x at n room few len size t is =
+    cleared-put w (set y at n) x at n us size (omega (arith, most)) room (length-set y at n ∙ len) (getD-set-same y at n 0 (omega arith))
+    (λ i h. same-use (wordIn (set y at n)) (wordIn y) (at + 1 + 3 * i) (at + 1 + 3 * i) (other (at + 1 + 3 * i) (omega arith))
+    (other (at + 1 + 3 * i + 1) (omega arith)) (other (at + 1 + 3 * i + 2) (omega arith))
+    ∙ t .uses i (omega arith)) (λ k h. getD-set-other y at k n 0 (λ c. omega arith) ∙ t .before k (omega arith))
+    (λ k h. other k (omega arith) ∙ t .behind k (omega arith)) is
+  where
+    us : List Use
+    us = staying f m (lineOf (lineFrom (wordIn w) at))
+
+    most : length us ≤ wordIn w at
+    most = omega (arith, few-stay f m (lineOf (lineFrom (wordIn w) at)), held-size (wordIn w) at few)
+
+    other : (k : ℕ) → at + 1 ≤ k → getD (set y at n) k 0 ≡ getD y k 0
+    other k h = getD-set-other y at k n 0 (λ c. omega arith)

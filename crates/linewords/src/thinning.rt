@@ -1,0 +1,55 @@
+// The lines without the uses of points that leave, the m points from f on.
+use crate::clearing::clear;
+use boardwords::put_use;
+use boardwords::read_use;
+use lines::stay_count;
+use lines::stay_use;
+ghost use mathlib.Core.Path.{_≡_};
+ghost use mathlib.Core.List.{map};
+ghost use Prim.Native.Nat.{ℕ, _+_, _≤_};
+ghost use lib.ListN.{length, getD, take};
+ghost use Rattle.plain.specs.Plain.{staying};
+ghost use Rattle.lines.specs.Held.{lineOf, linesOf, noLine, lineFrom as heldLine, linesFrom as heldFrom};
+ghost use Rattle.boardwords.specs.Words.{wordIn, usesFrom, lineFrom, linesFrom};
+ghost use Rattle.boardwords.specs.Codec.{lineWords, linesWords, put};
+ghost use Rattle.linewords.specs.Thinned.{Thinned};
+
+// What stays of the first `count` uses from word `at` on, moved to the front, and how many. Each use is written behind those that stay, so
+// none is written over before it is read; one that leaves writes 0 there, and the next is written over it.
+fn stay_uses(w: &mut [u32], at: usize, count: usize, f: u32, m: u32) -> usize
+    requires { ⌜ (at + 96 ≤ length (now w)) × (count ≤ 32) × (f + m ≤ 65) ⌝ }
+    ensures size { λ r. ⌜ r ≡ length (staying f m (take count (usesFrom (wordIn (now (w .entry))) at))) ⌝ }
+    ensures few { λ r. ⌜ r ≤ count ⌝ }
+    ensures words { λ _. ⌜ Thinned (now (w .entry)) (now (w .exit)) at count (staying f m (take count (usesFrom (wordIn (now (w .entry))) at))) ⌝ }
+{
+    let mut next = 0;
+    for k in 0..count {
+        let u = read_use(w, at + 3 * k);
+        put_use(w, at + 3 * next, stay_use(u, f, m));
+        next += stay_count(u, f, m);
+    }
+    next
+}
+
+// The line at word `at` without the uses of points that leave.
+fn stay_line(w: &mut [u32], at: usize, f: u32, m: u32)
+    requires { ⌜ (at + 97 ≤ length (now w)) × (wordIn (now w) at ≤ 32) × (f + m ≤ 65) ⌝ }
+    ensures { λ _. ⌜ now (w .exit) ≡ put (now (w .entry)) at (lineWords (heldLine (staying f m (lineOf (lineFrom (wordIn (now (w .entry))) at))))) ⌝ }
+{
+    let count = w[at] as usize;
+    let left = stay_uses(w, at + 1, count, f, m);
+    w[at] = left as u32;
+    clear(w, at + 1 + 3 * left, at + 97);
+}
+
+// The lines of a board without the uses of points that leave.
+pub fn stay_lines(w: &mut [u32], f: u32, m: u32)
+    requires { ⌜ 1604 ≤ length (now w) ⌝ }
+    requires { ⌜ ((k : ℕ) → getD (linesFrom (wordIn (now w))) k noLine .count ≤ 32) ⌝ }
+    requires { ⌜ f + m ≤ 65 ⌝ }
+    ensures { λ _. ⌜ now (w .exit) ≡ put (now (w .entry)) 52 (linesWords (heldFrom (map (staying f m) (linesOf (linesFrom (wordIn (now (w .entry)))))))) ⌝ }
+{
+    for k in 0..16 {
+        stay_line(w, 52 + 97 * k, f, m);
+    }
+}

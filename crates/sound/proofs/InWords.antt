@@ -1,0 +1,54 @@
+-- Lines and boards in words. Assumes nothing.
+--   use-next, use-over   what is left of a line, after k of its uses;  lines-next: of the lines
+--   framed-in            numbers and lines of words, jobs read from them and their table lent are the board of the words
+--   unmarked             a board with a job in use that is marked by neither 0 nor 1 is not sound
+--   not-whole            nor is what stands for bytes that are not as many as a board has
+use Prim.Native.Nat.{ℕ, _+_, _*_, _≤_, _<_}
+use mathlib.Core.Path.{_≡_, refl, sym, _∙_, ap}
+use mathlib.Core.Bool.{true, false}
+use mathlib.Core.List.{List, [], _∷_}
+use native.Mathlib.Omega.{arith}
+use lib.ListN.{length, drop}
+use lib.Dec.{eqb}
+use Rattle.plain.specs.declared.Use.{Use}
+use Rattle.plain.specs.Plain.{noUse}
+use Rattle.lines.specs.declared.Jobs.{Jobs}
+use Rattle.lines.specs.declared.Line.{Line}
+use Rattle.lines.specs.Held.{lineOf, noLine}
+use Rattle.lines.proofs.Lists.{held-next, held-over}
+use Rattle.lists.specs.Loops.{allBelow}
+use Rattle.boardwords.specs.Words.{Words, wordIn, heldJobs, boardIn, useAt, lineFrom, lineAt, linesFrom, usesFrom, boardFrom, decoded, allMarked, marked}
+use Rattle.boardwords.proofs.Listed.{length-listed, listed-at}
+use Rattle.boardwords.proofs.Lent.{lentTable, cells-lent}
+use Rattle.sound.specs.Sound.{framed, sound}
+use Rattle.sound.proofs.Flags.{left-next}
+
+module _ (w : Words) (at : ℕ) (small : w at ≤ 32) where
+  long : length (usesFrom w (at + 1)) ≡ 32
+  long = length-listed (useAt w (at + 1)) 32
+
+  pub use-next : (k : ℕ) (u : Use) → k < w at → u ≡ useAt w (at + 1) k → drop k (lineOf (lineFrom w at)) ≡ u ∷ drop (k + 1) (lineOf (lineFrom w at))
+  use-next k u h e =
+      held-next (w at) (usesFrom w (at + 1)) k noUse h (omega (arith, long))
+      ∙ ap (λ (x : Use). x ∷ drop (k + 1) (lineOf (lineFrom w at))) (listed-at (useAt w (at + 1)) 32 k noUse (omega arith) ∙ sym e)
+
+  pub use-over : (k : ℕ) → w at ≤ k → drop k (lineOf (lineFrom w at)) ≡ []
+  use-over k h = held-over (w at) (usesFrom w (at + 1)) k h
+
+pub lines-next : (w : Words) (k : ℕ) → k < 16 → drop k (linesFrom w) ≡ lineAt w k ∷ drop (k + 1) (linesFrom w)
+lines-next w k h =
+    left-next (linesFrom w) k noLine (omega (arith, length-listed (lineAt w) 16))
+    ∙ ap (λ (x : Line). x ∷ drop (k + 1) (linesFrom w)) (listed-at (lineAt w) 16 k noLine h)
+
+pub framed-in :
+    (w : List ℕ) (jobs : Jobs) → length w ≡ 5829 → allMarked (wordIn w) ≡ true → jobs ≡ heldJobs (wordIn w)
+    → framed (wordIn w) jobs (lentTable w) ≡ boardIn w
+framed-in w jobs len marks e = rw (marks, e, cells-lent w len) refl
+
+pub unmarked : (w : Words) → allMarked w ≡ false → sound (boardFrom w) ≡ false
+unfolding sound
+unmarked w e = rw e refl
+
+pub not-whole : (s : List ℕ) → eqb (length s) 23316 ≡ false → sound (decoded s .board) ≡ false
+unfolding sound decoded allMarked allBelow marked
+not-whole s e = rw e refl

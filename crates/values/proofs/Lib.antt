@@ -1,0 +1,2 @@
+pub mod GivenBack
+pub mod ByValue
