@@ -28,10 +28,10 @@ live-count-requires c κs = jobs-sized (c .before .before .before .args .w .now)
 
 freeze-requires : tie.Need-freeze-requires
 freeze-requires c κs = let n = c .live-count .ensures in
-    ((length-lent (c .before .before .before .before .args .w .now) (c .before .before .before .before .pre .0), n, closed-lent (c .before .before .before .before .args .w .now) (c .before .before .before .before .pre .1 .0) _ (c .before .before .before .before .pre .1 .1) (c .before .before .before .before .pre .0) _ n), (jobs-sized (c .before .before .before .before .args .w .now) (c .before .before .before .before .pre .1 .0) _ (c .before .before .before .before .pre .1 .1), unsent-place (c .before .before .before .before .args .w .now) (c .before .before .before .before .pre .0) (c .before .before .before .before .pre .1 .0) _ (c .before .before .before .before .pre .1 .1) (c .before .before .before .before .args .place) (c .before .before .before .before .pre .1 .2)))
+    ((length-lent (c .before .before .before .before .args .w .now) (c .before .before .before .before .pre .0), n, closed-lent (c .before .before .before .before .args .w .now) (c .before .before .before .before .pre .1 .0) _ (c .before .before .before .before .pre .1 .1) (c .before .before .before .before .pre .0) _ n), (jobs-sized (c .before .before .before .before .args .w .now) (c .before .before .before .before .pre .1 .0) _ (c .before .before .before .before .pre .1 .1), omega (arith, unsent-place (c .before .before .before .before .args .w .now) (c .before .before .before .before .pre .0) (c .before .before .before .before .pre .1 .0) _ (c .before .before .before .before .pre .1 .1) (c .before .before .before .before .args .place) (c .before .before .before .before .pre .1 .2))))
 
 mark-sent-requires : tie.Need-mark-sent-requires
-mark-sent-requires c κs = (unsent-place (c .before .before .before .before .before .before .before .before .args .w .now) (c .before .before .before .before .before .before .before .before .pre .0) (c .before .before .before .before .before .before .before .before .pre .1 .0) _ (c .before .before .before .before .before .before .before .before .pre .1 .1) (c .before .before .before .before .before .before .before .before .args .place) (c .before .before .before .before .before .before .before .before .pre .1 .2), jobs-sized (c .before .before .before .before .before .before .before .before .args .w .now) (c .before .before .before .before .before .before .before .before .pre .1 .0) _ (c .before .before .before .before .before .before .before .before .pre .1 .1) .count)
+mark-sent-requires c κs = (omega (arith, unsent-place (c .before .before .before .before .before .before .before .before .args .w .now) (c .before .before .before .before .before .before .before .before .pre .0) (c .before .before .before .before .before .before .before .before .pre .1 .0) _ (c .before .before .before .before .before .before .before .before .pre .1 .1) (c .before .before .before .before .before .before .before .before .args .place) (c .before .before .before .before .before .before .before .before .pre .1 .2)), jobs-sized (c .before .before .before .before .before .before .before .before .args .w .now) (c .before .before .before .before .before .before .before .before .pre .1 .0) _ (c .before .before .before .before .before .before .before .before .pre .1 .1) .count)
 
 put-front-requires : tie.Need-put-front-requires
 put-front-requires c κs = search needs
