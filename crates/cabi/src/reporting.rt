@@ -1,19 +1,23 @@
 // The rows of a board written as words, four each, from the words of the board.
 use boardwords::read_jobs;
+use gaps::earliest;
+use gaps::latest;
 use lines::Jobs;
 use lines::points;
 use report::Row;
-use report::row_at;
 use sound::is_sound_in;
 ghost use mathlib.Core.Path.{_≡_};
-ghost use Prim.Native.Nat.{_+_, _*_, _≤_};
-ghost use lib.ListN.{length, getD};
+ghost use Prim.Native.Nat.{_+_, _*_, _≤_, _<_};
+ghost use lib.ListN.{length};
 ghost use Rattle.rulings.specs.Answer.{numberOf};
+ghost use Rattle.plain.specs.Plain.{total};
 ghost use Rattle.lines.specs.Held.{jobsOf};
-ghost use Rattle.report.specs.Rows.{noRow, rowsIn};
+ghost use Rattle.lines.specs.Asked.{Sized};
+ghost use Rattle.gaps.specs.Cells.{tableOf};
+ghost use Rattle.report.specs.Rows.{rowOf, rowsIn};
 ghost use Rattle.boardwords.specs.Words.{boardIn};
 ghost use Rattle.boardwords.specs.Codec.{joined, put};
-ghost use Rattle.cabi.specs.Calls.{rowWords, reportRuled, rowsAfter};
+ghost use Rattle.cabi.specs.Calls.{rowWords, rowsWords, reportRuled, rowsAfter};
 
 fn put_row(w: &mut [u32], at: usize, row: Row)
     requires { ⌜ at + 4 ≤ length (now w) ⌝ }
@@ -25,14 +29,35 @@ fn put_row(w: &mut [u32], at: usize, row: Row)
     w[at + 3] = row.latest;
 }
 
-// The first n rows, from the first word on.
-fn put_rows(w: &mut [u32], t: &[u32], jobs: Jobs, n: usize)
-    requires { ⌜ (length (now t) ≡ 4225) × (jobs .count ≤ 16) × (n ≤ 64) × (4 * n ≤ length (now w)) ⌝ }
-    ensures { λ _. ⌜ now (w .exit) ≡ put (now (w .entry)) 0 (joined (λ k. rowWords (getD (rowsIn (now (t .entry)) (jobsOf jobs)) k noRow)) n) ⌝ }
+// The rows of the m points of the job at `place`, the first of which is row x, that of the point numbered x + 1.
+fn put_job_rows(w: &mut [u32], t: &[u32], place: usize, x: usize, m: usize)
+    requires { ⌜ (length (now t) ≡ 4225) × (place < 16) × (x + m ≤ 64) × (4 * (x + m) ≤ length (now w)) ⌝ }
+    ensures { λ _. ⌜ now (w .exit) ≡ put (now (w .entry)) (4 * x) (joined (λ k. rowWords (rowOf (tableOf (now (t .entry))) place k (x + 1 + k))) m) ⌝ }
 {
-    for k in 0..n {
-        let row = row_at(t, jobs, k);
-        put_row(w, 4 * k, row);
+    for k in 0..m {
+        let early = earliest(t, x + 1 + k);
+        let late = latest(t, x + 1 + k);
+        let row = Row {
+            job: place as u32,
+            point: k as u32,
+            earliest: early,
+            latest: late,
+        };
+        put_row(w, 4 * x + 4 * k, row);
+    }
+}
+
+// All rows, from the first word on.
+fn put_rows(w: &mut [u32], t: &[u32], jobs: Jobs)
+    requires { ⌜ (length (now t) ≡ 4225) × Sized jobs × (4 * total (jobsOf jobs) ≤ length (now w)) ⌝ }
+    ensures { λ _. ⌜ now (w .exit) ≡ put (now (w .entry)) 0 (rowsWords (rowsIn (now (t .entry)) (jobsOf jobs))) ⌝ }
+{
+    let mut x = 0;
+    for place in 0..jobs.count {
+        let job = jobs.jobs[place];
+        let m = job.points as usize;
+        put_job_rows(w, t, place, x, m);
+        x += m;
     }
 }
 
@@ -50,6 +75,6 @@ pub fn tell(w: &[u32], rows: &mut [u32]) -> u32
     if rows.len() < 4 * n {
         return 22;
     }
-    put_rows(rows, &w[1604..], jobs, n);
+    put_rows(rows, &w[1604..], jobs);
     0
 }

@@ -1,86 +1,106 @@
 -- The test of a table says what document 01 asks of it, and the table is closed then.
---   top, lifted-test, joined-test   how `way_holds` tells a good cell: the way less the cell, lifted, has the top bit, and with all joined the
---                               bit is there where each has it
---   inRange-to                  each cell is at most its limit;  inRange-bounded: so sums of live cells are small
+--   limit-live, limit-rest      the limit of a live column and of the others
+--   none-joined                 how `are_clear` tells that all cells are 0;  clear-part, clear-rest: cells tested part by part
+--   inRange-row                 each cell of a live row is at most its limit;  inRange-bounded: so sums of live cells are small
+--   inRange-rest                every other cell is 0
 --   bounded-follows             the clause on the bound says no more than the others do
 --   gapTable-to, gapTable-of    the test is true exactly where GapTable holds
 --   gapTable-closed             a good table is closed
 --   added-gapTable              a rule that agrees leaves a good table;  grown-gapTable: and so do new points;  grown-closed: of closed tables alone
-use mathlib.Core.Bool.{true, _&&_}
+use mathlib.Core.Bool.{true, false, _&&_}
 use mathlib.Core.List.{List}
 use mathlib.Core.Logic.{_⊎_, inl, inr}
-use mathlib.Core.Path.{_≡_, refl, sym, _∙_, ap₂}
-use Prim.Native.Nat.{ℕ, _+_, _-_, _*_, _^_, _≤_, _<_}
+use mathlib.Core.Path.{_≡_, refl, sym, _∙_, ap}
+use Prim.Native.Nat.{ℕ, _+_, _-_, _*_, _/_, _%_, _^_, _≤_, _<_}
 use native.Mathlib.Decide.{decLt, decLe}
 use native.Mathlib.Omega.{arith}
-use lib.Bits.{bitAnd, and-block, and-le-l, and-le-r}
+use lib.Bits.{bitOr, and-le-l, and-le-r, or-add-and}
 use lib.Dec.{leb, ltb, eqb}
-use lib.ListN.{length}
-use borrow.Author.Tests.{lt-ltb, le-ltb, le-leb, lt-leb, leb-true, eqb-true, eq-eqb}
+use lib.ListN.{length, getD}
+use borrow.Author.Tests.{lt-ltb, le-ltb, le-leb, lt-leb, leb-true, eqb-true, eq-eqb, ne-eqb}
 use Rattle.plain.specs.declared.Rule.{Rule}
-use Rattle.lists.proofs.AllBelow.{both-true, allBelow-to, allBelow-of}
+use Rattle.lists.specs.Loops.{allBelow}
+use Rattle.lists.proofs.AllBelow.{both-true, allBelow-to, allBelow-of, allBelow-part, allBelow-rest}
 use Rattle.stn.proofs.Agree.{agree-closed}
 use Rattle.stn.proofs.Grow.{growAll-closed, growAll-roof}
 use Rattle.stn.specs.Table.{bias, Closed, Agrees, add}
 use Rattle.gaps.specs.Cells.{cell, tableOf, added, grown, Bounded}
-use Rattle.gaps.specs.GapTable.{GapTable, limit, rowInRange, inRange, isDiagonal, inWindows, wayHolds, rowHolds, isClosed, isGapTable}
+use Rattle.gaps.specs.GapTable.{GapTable, limit, rowInRange, clear, inRange, isDiagonal, inWindows, holds, wayHolds, rowHolds, isClosed, isGapTable}
 use Rattle.gaps.proofs.Added.{added-agree, added-rest, added-closed}
 use Rattle.gaps.proofs.Grown.{grown-agree, grown-rest}
-
--- ---- the triangle test
-
-abbrev pub top : ℕ
-top = 2147483648
-
-pub joined-test :
-    (a b : ℕ) → a < 4294967296 → b < 4294967296 → leb top (bitAnd a b) ≡ (leb top a && leb top b)
-joined-test a b ha hb = go (decLe top a) (decLe top b)
-  where
-    go : Dec (top ≤ a) → Dec (top ≤ b) → leb top (bitAnd a b) ≡ (leb top a && leb top b)
-    go (yes x) (yes y) =
-        let e : a ≡ 1 * 2 ^ 31 + (a - top) = omega arith in
-        let d : b ≡ 1 * 2 ^ 31 + (b - top) = omega arith in
-        let joined = ap₂ bitAnd e d ∙ and-block 31 1 1 (a - top) (b - top) (omega arith) (omega arith) in
-        rw (le-leb top a x, le-leb top b y) (le-leb top (bitAnd a b) (omega (arith, joined)))
-    go (yes x) (no y) =
-        rw (le-leb top a x, lt-leb top b (omega arith)) (lt-leb top (bitAnd a b) (omega (arith, and-le-r a b)))
-    go (no x) d = rw (lt-leb top a (omega arith)) (lt-leb top (bitAnd a b) (omega (arith, and-le-l a b)))
-
-pub lifted-test :
-    (direct via onward : ℕ) → direct ≤ bias + bias
-    → leb top (via + (top - bias) + onward - direct) ≡ leb (direct + bias) (via + onward)
-lifted-test direct via onward hd = go (decLe (direct + bias) (via + onward))
-  where
-    go : Dec (direct + bias ≤ via + onward) → leb top (via + (top - bias) + onward - direct) ≡ leb (direct + bias) (via + onward)
-    go (yes h) = rw (le-leb (direct + bias) (via + onward) h) (le-leb top (via + (top - bias) + onward - direct) (omega arith))
-    go (no h) = rw (lt-leb (direct + bias) (via + onward) (omega arith)) (lt-leb top (via + (top - bias) + onward - direct) (omega arith))
+use Rattle.gaps.proofs.Overlaid.{at-place}
 
 -- ---- the range test
 
-module _ (n i j : ℕ) where
-  limit-live : i < n → j < n → limit n i j ≡ bias + bias
-  limit-live x y = rw (lt-ltb i n x, lt-ltb j n y)
+-- cells joined are 0 where each is
+pub none-joined : (a b : ℕ) → eqb (bitOr a b) 0 ≡ (eqb a 0 && eqb b 0)
+none-joined a b = go (decLe a 0) (decLe b 0)
+  where
+    go : Dec (a ≤ 0) → Dec (b ≤ 0) → eqb (bitOr a b) 0 ≡ (eqb a 0 && eqb b 0)
+    go (yes x) (yes y) = rw (eq-eqb a 0 (omega arith), eq-eqb b 0 (omega arith)) (eq-eqb (bitOr a b) 0 (omega (arith, or-add-and a b)))
+    go (yes x) (no y) =
+        rw (eq-eqb a 0 (omega arith), ne-eqb b 0 (λ e. y (omega arith)))
+        (ne-eqb (bitOr a b) 0 (λ e. y (omega (arith, or-add-and a b, and-le-l a b))))
+    go (no x) d =
+        rw (ne-eqb a 0 (λ e. x (omega arith))) (ne-eqb (bitOr a b) 0 (λ e. x (omega (arith, or-add-and a b, and-le-r a b))))
 
-  limit-rest : n ≤ i ⊎ n ≤ j → limit n i j ≡ 0
-  limit-rest (inl x) = rw (le-ltb i n x)
-  limit-rest (inr y) = go (decLt i n)
+-- the cells of a place on, tested part by part: `at` is where the part begins
+module _ (l : List ℕ) (from at m : ℕ) (far : from ≤ at) where
+  same : (k : ℕ) → k < m → eqb (getD l (at + k) 0) 0 ≡ eqb (getD l (from + (at - from + k)) 0) 0
+  same k h = ap (λ (p : ℕ). eqb (getD l p 0) 0) {x = at + k} {y = from + (at - from + k)} (omega arith)
+
+  pub clear-part : (n : ℕ) → at - from + m ≤ n → clear l at m ≡ false → false ≡ clear l from n
+  clear-part n h = allBelow-part (λ k. eqb (getD l (from + k) 0) 0) (λ k. eqb (getD l (at + k) 0) 0) (at - from) m same n h
+
+  pub clear-rest : (n : ℕ) → at - from + m ≡ n → clear l from (at - from) ≡ true → clear l at m ≡ clear l from n
+  clear-rest n is = allBelow-rest (λ k. eqb (getD l (from + k) 0) 0) (λ k. eqb (getD l (at + k) 0) 0) (at - from) m same n is
+
+module _ (n j : ℕ) where
+  pub limit-live : j < n → limit n j ≡ bias + bias
+  limit-live x = rw (lt-ltb j n x)
+
+  pub limit-rest : n ≤ j → limit n j ≡ 0
+  limit-rest x = rw (le-ltb j n x)
+
+module _ (l : List ℕ) (n : ℕ) (few : n ≤ 65) where
+  -- the rows of live points, and the cells past them
+  parts : inRange l n ≡ true → (allBelow (rowInRange l n) n ≡ true) × (clear l (n * 65) (4225 - n * 65) ≡ true)
+  unfolding inRange
+  parts h = both-true (allBelow (rowInRange l n) n) (clear l (n * 65) (4225 - n * 65)) h
+
+  pub inRange-row : inRange l n ≡ true → (i j : ℕ) → i < n → j < 65 → cell l i j ≤ limit n j
+  inRange-row h i j hi hj = leb-true _ _ (allBelow-to (λ j. leb (cell l i j) (limit n j)) 65 (allBelow-to (rowInRange l n) n (parts h .0) i hi) j hj)
+
+  pub inRange-bounded : inRange l n ≡ true → Bounded n (tableOf l)
+  inRange-bounded h i j hi hj = omega (arith, inRange-row h i j hi (omega arith), limit-live n j hj)
+
+  pub inRange-rest : inRange l n ≡ true → (i j : ℕ) → i < 65 → j < 65 → n ≤ i ⊎ n ≤ j → cell l i j ≡ 0
+  inRange-rest h i j hi hj past = go (decLt i n) past
     where
-      go : Dec (i < n) → limit n i j ≡ 0
-      go (yes x) = rw (lt-ltb i n x, le-ltb j n y)
-      go (no x) = rw (le-ltb i n (omega arith))
+      go : Dec (i < n) → n ≤ i ⊎ n ≤ j → cell l i j ≡ 0
+      go (yes x) (inl p) = absurd (omega arith)
+      go (yes x) (inr p) = omega (arith, inRange-row h i j x hj, limit-rest n j p)
+      go (no x) p =
+          let k = (i - n) * 65 + j in
+          let here : n * 65 + k ≡ i * 65 + j = omega arith in
+          rw (← here) (eqb-true _ _ (allBelow-to (λ k. eqb (getD l (n * 65 + k) 0) 0) (4225 - n * 65) (parts h .1) k (omega arith)))
 
-module _ (l : List ℕ) (n : ℕ) where
-  pub inRange-to : inRange l n ≡ true → (i j : ℕ) → i < 65 → j < 65 → cell l i j ≤ limit n i j
+  inRange-of :
+      Bounded n (tableOf l) → ((i j : ℕ) → i < 65 → j < 65 → n ≤ i ⊎ n ≤ j → cell l i j ≡ 0) → inRange l n ≡ true
   unfolding inRange
-  inRange-to h i j hi hj =
-      leb-true _ _ (allBelow-to (λ j. leb (cell l i j) (limit n i j)) 65 (allBelow-to (rowInRange l n) 65 h i hi) j hj)
+  inRange-of bounded rest = rw (rows, past)
+    where
+      within : (i j : ℕ) → i < n → j < 65 → Dec (j < n) → cell l i j ≤ limit n j
+      within i j hi hj (yes x) = omega (arith, limit-live n j x, bounded i j hi x)
+      within i j hi hj (no x) = omega (arith, rest i j (omega arith) hj (inr (omega arith)))
 
-  inRange-of : ((i j : ℕ) → i < 65 → j < 65 → cell l i j ≤ limit n i j) → inRange l n ≡ true
-  unfolding inRange
-  inRange-of h = allBelow-of (rowInRange l n) 65 (λ i hi. allBelow-of _ 65 (λ j hj. le-leb _ _ (h i j hi hj)))
+      rows : allBelow (rowInRange l n) n ≡ true
+      rows = allBelow-of (rowInRange l n) n (λ i hi. allBelow-of _ 65 (λ j hj. le-leb _ _ (within i j hi hj (decLt j n))))
 
-  pub inRange-bounded : n ≤ 65 → inRange l n ≡ true → Bounded n (tableOf l)
-  inRange-bounded few h i j hi hj = omega (arith, inRange-to h i j (omega arith) (omega arith), limit-live n i j hi hj)
+      past : clear l (n * 65) (4225 - n * 65) ≡ true
+      past = allBelow-of _ (4225 - n * 65) λ k hk.
+          let p = n * 65 + k in
+          eq-eqb _ _ (sym (at-place l p) ∙ rest (p / 65) (p % 65) (omega arith) (omega arith) (inl (omega arith)))
 
 -- ---- the bound
 
@@ -104,11 +124,11 @@ module _ (l : List ℕ) (n H : ℕ) (few : n ≤ 65) where
       λ i hi. both-true (leb (cell l i 0) bias) (leb (cell l 0 i) (bias + H)) (allBelow-to _ n (s .0) i hi) in
       record {
         bounded = inRange-bounded l n few (p .0);
-        rest = λ i j hi hj past. omega (arith, inRange-to l n (p .0) i j hi hj, limit-rest n i j past);
+        rest = inRange-rest l n few (p .0);
         diagonal = λ i hi. eqb-true _ _ (allBelow-to (λ i. eqb (cell l i i) bias) n (q .0) i hi);
         triangle = λ i j k hi hj hk.
             leb-true _ _
-            (allBelow-to (λ k. leb (cell l i k + bias) (cell l i j + cell l j k)) n
+            (allBelow-to (holds l i j) n
             (allBelow-to (wayHolds l n i) n (allBelow-to (rowHolds l n) n (s .1) i hi) j hj) k hk);
         floor = λ i hi. leb-true _ _ (window i hi .0);
         roof = λ i hi. leb-true _ _ (window i hi .1);
@@ -117,7 +137,7 @@ module _ (l : List ℕ) (n H : ℕ) (few : n ≤ 65) where
   pub gapTable-of : GapTable l n H → isGapTable l n H ≡ true
   unfolding isDiagonal inWindows isClosed
   gapTable-of g =
-      let range : inRange l n ≡ true = inRange-of l n λ i j hi hj. at-most i j (decLt i n) (decLt j n) hi hj in
+      let range : inRange l n ≡ true = inRange-of l n few (g .bounded) (g .rest) in
       let diagonal : isDiagonal l n ≡ true = allBelow-of (λ i. eqb (cell l i i) bias) n λ i hi. eq-eqb _ _ (g .diagonal i hi) in
       let windows : inWindows l n H ≡ true =
       allBelow-of (λ i. leb (cell l i 0) bias && leb (cell l 0 i) (bias + H)) n
@@ -127,13 +147,8 @@ module _ (l : List ℕ) (n H : ℕ) (few : n ≤ 65) where
       λ i hi.
       allBelow-of (wayHolds l n i) n
       λ j hj.
-      allBelow-of (λ k. leb (cell l i k + bias) (cell l i j + cell l j k)) n λ k hk. le-leb _ _ (g .triangle i j k hi hj hk) in
+      allBelow-of (holds l i j) n λ k hk. le-leb _ _ (g .triangle i j k hi hj hk) in
       rw (range, diagonal, windows, closed)
-    where
-      at-most : (i j : ℕ) → Dec (i < n) → Dec (j < n) → i < 65 → j < 65 → cell l i j ≤ limit n i j
-      at-most i j (yes x) (yes y) hi hj = omega (arith, limit-live n i j x y, g .bounded i j x y)
-      at-most i j (yes x) (no y) hi hj = omega (arith, g .rest i j hi hj (inr (omega arith)))
-      at-most i j (no x) d hi hj = omega (arith, g .rest i j hi hj (inl (omega arith)))
 
 pub gapTable-closed : {l : List ℕ} {n H : ℕ} → GapTable l n H → Closed n (tableOf l)
 gapTable-closed g = record { diagonal = g .diagonal; triangle = g .triangle; bounded = g .bounded; floor = g .floor }

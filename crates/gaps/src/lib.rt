@@ -8,6 +8,7 @@ mod copying; // cells copied
 mod dropping; // points dropped
 mod growing; // new points
 mod testing; // whether cells are a good table
+mod triangle; // whether no entry exceeds the sum by way of a third point
 
 pub use adding::add;
 pub use adding::agrees;

@@ -65,7 +65,7 @@ fn no_row() -> Row
 }
 
 // Row x, that of the point numbered x + 1; 0 where there is no such point.
-pub fn row_at(t: &[u32], jobs: Jobs, x: usize) -> Row
+fn row_at(t: &[u32], jobs: Jobs, x: usize) -> Row
     requires { ⌜ (length (now t) ≡ 4225) × (jobs .count ≤ 16) × (x < 64) ⌝ }
     ensures { λ r. ⌜ r ≡ getD (rowsIn (now (t .entry)) (jobsOf jobs)) x noRow ⌝ }
 {

@@ -48,7 +48,7 @@ part-put-rows-end c = search needs
 put-rows-requires : tie.Need-put-rows-requires
 put-rows-requires c κs =
     let sized = subst Sized (sym (c .before .before .before .before .before .before .read-jobs .ensures)) (sound-sized (boardIn (c .before .before .before .before .before .before .before .before .before .args .w .now)) (sym (c .before .before .before .before .before .is-sound-in .ensures) ∙ not-false _ (c .before .before .before .before .if1 .left))) in
-    (length-lent (c .before .before .before .before .before .before .before .before .before .args .w .now) (c .before .before .before .before .before .before .before .before .before .pre), sized .count, omega (arith, sized .points, c .before .before .before .points .ensures), omega arith)
+    (length-lent (c .before .before .before .before .before .before .before .before .before .args .w .now) (c .before .before .before .before .before .before .before .before .before .pre), sized, omega (arith, c .before .before .before .points .ensures))
 
 same-length : tie.Need-same-length
 same-length c = search needs
@@ -56,7 +56,7 @@ same-length c = search needs
 returns-3 : tie.Need-returns-3
 returns-3 c =
     let jobs = c .before .before .before .before .before .before .before .before .before .read-jobs .ensures in
-    told-rows (boardIn (c .before .before .before .before .before .before .before .before .before .before .before .before .args .w .now)) _ _ _ (c .before .before .before .before .before .before .points .ensures ∙ ap (λ (j : Jobs). total (jobsOf j)) jobs) (sym (c .before .before .before .before .before .before .before .before .is-sound-in .ensures) ∙ not-false _ (c .before .before .before .before .before .before .before .if1 .left)) _ (c .before .before .before .before .before .if2 .left) (rows-lent (c .before .before .before .before .before .before .before .before .before .before .before .before .args .w .now) _ _ _ _ (c .before .before .before .before .before .before .before .before .before .before .before .before .pre) jobs (c .before .before .put-rows .ensures))
+    told-rows (boardIn (c .before .before .before .before .before .before .before .before .before .before .before .before .args .w .now)) _ _ _ (c .before .before .before .before .before .before .points .ensures ∙ ap (λ (j : Jobs). total (jobsOf j)) jobs) (sym (c .before .before .before .before .before .before .before .before .is-sound-in .ensures) ∙ not-false _ (c .before .before .before .before .before .before .before .if1 .left)) _ (c .before .before .before .before .before .if2 .left) (rows-lent (c .before .before .before .before .before .before .before .before .before .before .before .before .args .w .now) _ _ _ (c .before .before .before .before .before .before .before .before .before .before .before .before .pre) jobs (c .before .before .put-rows .ensures))
 
 pub tell-spec : {M : Type 1} → statement M
 tell-spec =

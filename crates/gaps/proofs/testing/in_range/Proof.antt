@@ -1,43 +1,34 @@
--- The range test of the table. The loop's invariant: the rows before i are in range as far as ok says.
-use mathlib.Core.Path.{_≡_}
-use Prim.Native.Nat.{_≤_, _-_}
-use native.Mathlib.Omega.{arith}
-use Rattle.lists.proofs.AllBelow.{allBelow-none, allBelow-next}
-use Rattle.lists.specs.Loops.{allBelow}
-use Rattle.gaps.specs.GapTable.{rowInRange, inRange}
+-- The range test: the rows of live points, and then all cells past them.
+use mathlib.Core.Path.{sym, _∙_}
+use borrow.Author.Needs.{needs}
+use borrow.Author.Tests.{not-true, not-false}
+use Rattle.gaps.specs.GapTable.{inRange}
 use Rattle.gaps.proofs.testing.in_range.Statement.{statement}
 use Rattle.gaps.proofs.testing.in_range.Tie as tie
 
-abbrev Inv-loop : tie.InvT-loop
-Inv-loop t n ok₀ i₀ ok i = (i ≤ 65) × (ok ≡ allBelow (rowInRange t n) i)
+are-rows-in-range-requires : tie.Need-are-rows-in-range-requires
+are-rows-in-range-requires c κs = search needs
 
-abbrev μ-loop : tie.MeasureT-loop
-μ-loop t n ok₀ i₀ ok i = 65 - i
-
-loop-holds : tie.Need-loop-holds Inv-loop μ-loop
-loop-holds c = (omega arith, allBelow-none _)
-
-row-in-range-requires : tie.Need-row-in-range-requires Inv-loop μ-loop
-row-in-range-requires c κs = omega arith
-
-add-i : tie.Need-add-i Inv-loop μ-loop
-add-i c = omega arith
-
-loop-less : tie.Need-loop-less Inv-loop μ-loop
-loop-less c = omega arith
-
-loop-again : tie.Need-loop-again Inv-loop μ-loop
-loop-again c =
-    let L = c .before .before .loop in
-    (omega arith, allBelow-next _ (L .i) (L .ok) _ (L .inv .1) (c .row-in-range .ensures))
-
-returns : tie.Need-returns Inv-loop μ-loop
+returns : tie.Need-returns
 unfolding inRange
-returns c =
-    let e : c .before .loop .i ≡ 65 = omega arith in
-    rw e at (c .before .loop .inv .1)
+returns c = rw (sym (c .before .are-rows-in-range .ensures) ∙ not-true _ (c .if1 .taken))
+
+mul-is-rest-clear : tie.Need-mul-is-rest-clear
+mul-is-rest-clear c = search needs
+
+is-rest-clear-requires : tie.Need-is-rest-clear-requires
+is-rest-clear-requires c κs = search needs
+
+returns-2 : tie.Need-returns-2
+unfolding inRange
+returns-2 c = rw (sym (c .before .before .are-rows-in-range .ensures) ∙ not-false _ (c .before .if1 .left)) (c .is-rest-clear .ensures)
 
 pub in-range-spec : {M : Type 1} → statement M
 in-range-spec =
     tie.close
-    (tie.spec Inv-loop μ-loop loop-holds row-in-range-requires add-i loop-less loop-again returns)
+    (tie.spec
+    are-rows-in-range-requires
+    returns
+    mul-is-rest-clear
+    is-rest-clear-requires
+    returns-2)

@@ -1,11 +1,10 @@
--- The whole test. Where the cells are in range, sums of them are small, as the triangle test requires.
+-- The whole test.
 use mathlib.Core.Bool.{true}
 use mathlib.Core.Path.{_≡_, sym, _∙_}
 use native.Mathlib.Omega.{arith}
 use borrow.Author.Needs.{needs}
 use borrow.Author.Tests.{not-true, not-false}
 use Rattle.gaps.specs.GapTable.{inRange, isDiagonal, inWindows}
-use Rattle.gaps.proofs.GapTable.{inRange-bounded}
 use Rattle.gaps.proofs.testing.is_gap_table.Statement.{statement}
 use Rattle.gaps.proofs.testing.is_gap_table.Tie as tie
 
@@ -39,9 +38,7 @@ returns-3 c =
     rw (ranged (c .before .before .before .before), straight (c .before .before), sym (c .before .in-windows .ensures) ∙ not-true _ (c .if3 .taken))
 
 is-closed-requires : tie.Need-is-closed-requires
-is-closed-requires c κs =
-    let A = c .before .before .before .before .before .before .before .args in
-    ((omega arith, omega arith), inRange-bounded (A .t .now) (A .n) (omega arith) (ranged (c .before .before .before .before)))
+is-closed-requires c κs = ((omega arith, omega arith), ranged (c .before .before .before .before))
 
 returns-4 : tie.Need-returns-4
 returns-4 c =

@@ -13,7 +13,7 @@ use Rattle.gaps.proofs.testing.row_in_range.Statement.{statement}
 use Rattle.gaps.proofs.testing.row_in_range.Tie as tie
 
 abbrev Inv-loop : tie.InvT-loop
-Inv-loop t n i ok₀ j₀ ok j = (j ≤ 65) × (ok ≡ allBelow (λ (k : ℕ). leb (cell t i k) (limit n i k)) j)
+Inv-loop t n i ok₀ j₀ ok j = (j ≤ 65) × (ok ≡ allBelow (λ (k : ℕ). leb (cell t i k) (limit n k)) j)
 
 abbrev μ-loop : tie.MeasureT-loop
 μ-loop t n i ok₀ j₀ ok j = 65 - j
@@ -46,7 +46,7 @@ loop-again : tie.Need-loop-again Inv-loop μ-loop
 loop-again c =
     let L = c .before .before .before .loop in
     let A = c .before .before .before .before .before .args in
-    let f : ℕ → Bool = λ k. leb (cell (A .t .now) (A .i) k) (limit (A .n) (A .i) k) in
+    let f : ℕ → Bool = λ k. leb (cell (A .t .now) (A .i) k) (limit (A .n) k) in
     (omega arith, allBelow-next f (L .j) (L .ok) _ (L .inv .1) (ap (leb (cell (A .t .now) (A .i) (L .j))) (c .limit .ensures)))
 
 returns : tie.Need-returns Inv-loop μ-loop
