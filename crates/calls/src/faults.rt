@@ -35,7 +35,11 @@ fn put_why(out: &mut [u8], at: usize, fault: Fault) -> usize {
             at,
             b"the line begins with no known word: use list, plant, check, part, fact, fresh, board, plan, send, clock, retire, report, table or state",
         ),
-        Fault::MissingWord => put(out, at, b"a word is missing: see what the call takes"),
+        Fault::MissingWord => put(
+            out,
+            at,
+            b"a word is missing: docs/FORMATS.md, Call log, says what the call takes",
+        ),
         Fault::ExtraWord => put(
             out,
             at,

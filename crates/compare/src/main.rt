@@ -100,7 +100,7 @@ fn put_unsound(out: &mut [u8], k: usize) -> usize {
     put(
         out,
         at,
-        b"the last board is not sound, so it stands for no timetables: begin the log with fresh\n",
+        b"the last board is not sound, so it stands for no timetables: let the log end on a sound board, such as an accepted fresh gives\n",
     )
 }
 
