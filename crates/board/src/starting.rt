@@ -13,7 +13,7 @@ ghost use mathlib.Core.Path.{_≡_};
 ghost use mathlib.Core.List.{[]};
 ghost use Rattle.lines.specs.Held.{jobsFrom, lineFrom, linesFrom};
 ghost use Rattle.rulebook.specs.Book.{emptyLines};
-ghost use Rattle.board.specs.Boards.{badSettings, zeroCells, freshCells, zeroBoard, freshBoard, freshRuled};
+ghost use Rattle.board.specs.Boards.{badSettings, freshCells, zeroBoard, freshRuled};
 
 fn no_jobs() -> Jobs
     ensures { λ r. ⌜ r ≡ jobsFrom [] ⌝ }

@@ -14,7 +14,7 @@ use Prim.Native.Nat.{ℕ, suc, _+_}
 use Rattle.rulings.specs.declared.Cause.{Cause}
 use Rattle.rulings.specs.declared.Ruling.{Ruling}
 use Rattle.rulings.specs.declared.Ruling.the-variants.{Accepted, Refused}
-use Rattle.rulings.specs.Answer.{cause, plain}
+use Rattle.rulings.specs.Answer.{plain}
 use Rattle.plain.specs.Plain
 use Rattle.plain.specs.Rules.{RuleOn}
 use Rattle.stn.specs.Table.{bias, Table, addAll, growAll, earliest, implied, pick, oldNumber}
@@ -65,7 +65,7 @@ retired b (Plain.Leaving.go m rs s) =
 abbrev pub sendPoints : Plain.State → ℕ → List ℕ
 sendPoints s place = Plain.unsentPoints 1 (suc place) (s .jobs)
 
--- they are set equal to their earliest times, which never fails
+-- they are set equal to their earliest times, which never fails: so no refusal has a number here, and 0, which is no refusal's, stands for it
 abbrev pub sending : Board → ℕ → Answer
 sending b place =
     settled b 0 (Plain.sentState (b .state) place) (addAll (Plain.freeze (earliest (b .table)) (sendPoints (b .state) place)) (b .table))

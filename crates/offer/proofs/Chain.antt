@@ -2,7 +2,7 @@
 --   action-is       an action's four masks
 --   known-in, here, ends-within, next-at   the step that a reader stands at, and where the next one starts
 --   known-twice, goal-twice, on-to-facts  refusal 10, and what comes after it
---   plant-refused, offer-refused, both-passed-to   the order of the whole check
+--   plant-refused, offer-refused, on-to-chain   the order of the whole check
 use Prim.Native.Nat.{ℕ, _+_, _-_, _*_, _≤_, _<_}
 use native.Mathlib.Omega.{arith}
 use native.Mathlib.Numerals.{add-one}

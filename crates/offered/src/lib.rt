@@ -14,11 +14,11 @@ use words::u32_at;
 ghost use mathlib.Core.Path.{_≡_};
 ghost use mathlib.Core.List.{[], _∷_, _++_};
 ghost use Prim.Native.Nat.{_+_, _*_, _≤_, _<_};
-ghost use lib.ListN.{length, take};
+ghost use lib.ListN.{length};
 ghost use Rattle.rulings.specs.declared.Ruling.the-variants.{Accepted};
-ghost use Rattle.plant.specs.Plant.{plantRuling, trailerOf, shortest, longest, allocationCount};
+ghost use Rattle.plant.specs.Plant.{plantRuling, trailerOf, shortest, longest};
 ghost use Rattle.offer.specs.Offer.{offerRuling, stepStart};
-ghost use Rattle.rulebook.specs.Reading.{recordOf, stepsFrom, putOf, putsOfStep, putsFrom, offerOf};
+ghost use Rattle.rulebook.specs.Reading.{recordOf, putOf, putsOfStep, offerOf};
 ghost use Rattle.lines.specs.Held.{noStep, noPut, putsOf};
 ghost use Rattle.offered.specs.Held.{stepsHeld, putsHeld};
 

@@ -9,7 +9,7 @@ use words::offset_at;
 use words::u32_at;
 ghost use mathlib.Core.Path.{_≡_};
 ghost use Prim.Native.Nat.{_+_, _*_, _≤_, _<_, _^_};
-ghost use lib.ListN.{length, getD};
+ghost use lib.ListN.{length};
 ghost use Rattle.plant.specs.Plant.{isMark, trailerOf, badLayout, badHead, badRecord, badDuration, badAllocation, someBadAllocation, badAction, recordAt, recordStart, recordRuling, plantRuling, allocationsOf, allocationCount};
 ghost use Rattle.rulings.specs.Order.{firstRefusal};
 

@@ -15,13 +15,12 @@ use explain::put_meaning;
 use input::Line;
 use input::take_line;
 use libc::STDOUT_FILENO;
-use rulings::number;
 use text::least;
 use text::put;
 ghost use Prim.Native.Nat.{_≤_};
 
 // The room that a program lends for output, and how much may wait before it is written, so that a long log takes few writes. No answer is
-// longer than the rest: a table of 65 rows with the longest numbers has 46,614 bytes.
+// longer than the rest: that of `list` is its line, of at most 65,535 bytes, and the line's end.
 pub const ROOM: usize = 131072;
 
 const FULL: usize = 65536;
@@ -204,9 +203,6 @@ fn put_refusal(out: &mut [u8], at: usize, answer: Answer) -> usize {
     let Answer::Ruling(ruling) = answer else {
         return at;
     };
-    if number(ruling) == 0 {
-        return at;
-    }
     put_meaning(out, at, ruling)
 }
 
