@@ -15,3 +15,12 @@ need() {
 need_rt() { need rt "the Rattle kit" "install the Rattle kit and put its 'rt' on your PATH"; }
 need_cc() { need cc "a C compiler" "install gcc or clang"; }
 need_cargo() { need cargo "Rust's build tool" "install Rust with cargo"; }
+
+# Proves and builds what ./bench and ./soak link: the fact check and the board's calls for C, in target/staticlib.
+build_libraries() {
+    local library
+    say "proving and building the static libraries (some minutes the first time)"
+    for library in factcheck cabi; do
+        rt staticlib "$library" >/dev/null 2>&1 || stop "the static library was not built: run 'rt staticlib $library' to see why."
+    done
+}
