@@ -59,8 +59,8 @@ uint32_t sf_fact_check(const uint8_t *plant, size_t plant_len, const uint8_t *of
  * and 32 times point, offset, length; 4,225 cells of the gap table. A board comes from sf_fresh, and goes from call to call.
  *
  * After a refused call every word of the board is what it was. While a call runs, the words are its own: no other thread may look at them,
- * since rules are tried on the table where it lies, and it is put back where they fail (17 and 20). `board_len` is a number of words: with another
- * one than SF_BOARD_WORDS, nothing at all is written.
+ * since rules are tried on the table where it lies, and it is put back where they fail (17 and 20). `board_len` is a number of words: with
+ * another one than SF_BOARD_WORDS the answer is 6, before anything else is looked at, and nothing at all is written.
  */
 #define SF_BOARD_WORDS 5829
 

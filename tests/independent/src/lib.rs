@@ -1,7 +1,7 @@
 //! A second implementation of document 01, written from that document and the call log format
 //! alone. It shares no code with the product, so that a slip in one shows as a difference.
 //!
-//! It covers plant files, offers, the fact check, and boards but for the report. A board is there
+//! It covers plant files, offers, the fact check, and boards with their report. A board is there
 //! twice: by the definition, with a rule book that keeps every rule, and in a fast form with a gap
 //! table. Its programs:
 //!
