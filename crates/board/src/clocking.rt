@@ -41,10 +41,10 @@ pub fn clock_in(w: &mut [u32], c: u32) -> Ruling
     ensures ruling { λ r. ⌜ r ≡ clocked (boardIn (now (w .entry))) c .ruling ⌝ }
     ensures words { λ _. ⌜ now (w .exit) ≡ wordsAfter (now (w .entry)) (clocked (boardIn (now (w .entry))) c) ⌝ }
 {
-    let jobs = read_jobs(w);
-    if !is_sound_in(w, jobs) {
+    if !is_sound_in(w) {
         return Ruling::Refused(Cause::Plain(6));
     }
+    let jobs = read_jobs(w);
     if c < w[2] {
         return Ruling::Refused(Cause::Plain(19));
     }

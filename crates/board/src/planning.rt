@@ -119,9 +119,9 @@ pub fn plan_in(w: &mut [u32], plant: &[u8], offer: &[u8]) -> Ruling
     if let Ruling::Refused(cause) = first {
         return Ruling::Refused(cause);
     }
-    let jobs = read_jobs(w);
-    if !is_sound_in(w, jobs) {
+    if !is_sound_in(w) {
         return Ruling::Refused(Cause::Plain(6));
     }
+    let jobs = read_jobs(w);
     plan_offer(w, jobs, plant, read_trailer(plant), offer)
 }

@@ -60,10 +60,10 @@ pub fn retire_in(w: &mut [u32]) -> Ruling
     ensures ruling { λ r. ⌜ r ≡ retired (boardIn (now (w .entry))) .ruling ⌝ }
     ensures words { λ _. ⌜ now (w .exit) ≡ wordsAfter (now (w .entry)) (retired (boardIn (now (w .entry)))) ⌝ }
 {
-    let jobs = read_jobs(w);
-    if !is_sound_in(w, jobs) {
+    if !is_sound_in(w) {
         return Ruling::Refused(Cause::Plain(6));
     }
+    let jobs = read_jobs(w);
     if jobs.count == 0 {
         return Ruling::Refused(Cause::Plain(21));
     }

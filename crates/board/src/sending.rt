@@ -40,10 +40,10 @@ pub fn send_in(w: &mut [u32], place: u32) -> Ruling
     ensures ruling { λ r. ⌜ r ≡ sent (boardIn (now (w .entry))) place .ruling ⌝ }
     ensures words { λ _. ⌜ now (w .exit) ≡ wordsAfter (now (w .entry)) (sent (boardIn (now (w .entry))) place) ⌝ }
 {
-    let jobs = read_jobs(w);
-    if !is_sound_in(w, jobs) {
+    if !is_sound_in(w) {
         return Ruling::Refused(Cause::Plain(6));
     }
+    let jobs = read_jobs(w);
     if !is_unsent(jobs, place as usize) {
         return Ruling::Refused(Cause::Plain(18));
     }

@@ -8,6 +8,7 @@ use lines::Jobs;
 use lines::Line;
 pub use reading::are_marked;
 pub use reading::read_board;
+pub use reading::read_job;
 pub use reading::read_jobs;
 pub use reading::read_use;
 use words::u32_at;

@@ -19,7 +19,7 @@ fn word(s: &[u32], k: usize) -> u32
     s[k]
 }
 
-fn job(s: &[u32], at: usize) -> Job
+pub fn read_job(s: &[u32], at: usize) -> Job
     requires { ⌜ at + 3 ≤ length (now s) ⌝ }
     ensures { λ r. ⌜ r ≡ jobFrom (wordIn (now (s .entry))) at ⌝ }
 {
@@ -36,7 +36,7 @@ fn jobs(s: &[u32]) -> [Job; 16]
 {
     let mut next = [no_job(); 16];
     for k in 0..16 {
-        next[k] = job(s, 4 + 3 * k);
+        next[k] = read_job(s, 4 + 3 * k);
     }
     next
 }

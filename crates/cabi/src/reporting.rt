@@ -67,10 +67,10 @@ pub fn tell(w: &[u32], rows: &mut [u32]) -> u32
     ensures number { λ r. ⌜ r ≡ numberOf (reportRuled (boardIn (now (w .entry))) (length (now (rows .entry))) .ruling) ⌝ }
     ensures rows { λ _. ⌜ now (rows .exit) ≡ rowsAfter (reportRuled (boardIn (now (w .entry))) (length (now (rows .entry)))) (now (rows .entry)) ⌝ }
 {
-    let jobs = read_jobs(w);
-    if !is_sound_in(w, jobs) {
+    if !is_sound_in(w) {
         return 6;
     }
+    let jobs = read_jobs(w);
     let n = points(jobs) as usize;
     if rows.len() < 4 * n {
         return 22;

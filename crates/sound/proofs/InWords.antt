@@ -1,6 +1,7 @@
--- Lines and boards in words. Assumes nothing.
+-- Jobs, lines and boards in words. Assumes nothing.
+--   job-next, job-over   what is left of the jobs, after k of them
 --   use-next, use-over   what is left of a line, after k of its uses;  lines-next: of the lines
---   framed-in            numbers and lines of words, jobs read from them and their table lent are the board of the words
+--   framed-in            numbers, jobs and lines of words and their table lent are the board of the words
 --   unmarked             a board with a job in use that is marked by neither 0 nor 1 is not sound
 --   not-whole            nor is what stands for bytes that are not as many as a board has
 use Prim.Native.Nat.{ℕ, _+_, _*_, _≤_, _<_}
@@ -10,18 +11,28 @@ use mathlib.Core.List.{List, [], _∷_}
 use native.Mathlib.Omega.{arith}
 use lib.ListN.{length, drop}
 use lib.Dec.{eqb}
+use Rattle.plain.specs.declared.Job.{Job}
 use Rattle.plain.specs.declared.Use.{Use}
 use Rattle.plain.specs.Plain.{noUse}
-use Rattle.lines.specs.declared.Jobs.{Jobs}
 use Rattle.lines.specs.declared.Line.{Line}
-use Rattle.lines.specs.Held.{lineOf, noLine}
+use Rattle.lines.specs.Held.{jobsOf, lineOf, noJob, noLine}
 use Rattle.lines.proofs.Lists.{held-next, held-over}
 use Rattle.lists.specs.Loops.{allBelow}
-use Rattle.boardwords.specs.Words.{Words, wordIn, heldJobs, boardIn, useAt, lineFrom, lineAt, linesFrom, usesFrom, boardFrom, decoded, allMarked, marked}
+use Rattle.boardwords.specs.Words.{Words, wordIn, jobAt, jobsFrom, heldJobs, boardIn, useAt, lineFrom, lineAt, linesFrom, usesFrom, boardFrom, decoded, allMarked, marked}
 use Rattle.boardwords.proofs.Listed.{length-listed, listed-at}
 use Rattle.boardwords.proofs.Lent.{lentTable, cells-lent}
 use Rattle.sound.specs.Sound.{framed, sound}
 use Rattle.sound.proofs.Flags.{left-next}
+
+module _ (w : Words) (few : w 3 ≤ 16) where
+  pub job-next :
+      (k : ℕ) (j : Job) → k < w 3 → j ≡ jobAt w k → drop k (jobsOf (heldJobs w)) ≡ j ∷ drop (k + 1) (jobsOf (heldJobs w))
+  job-next k j h e =
+      held-next (w 3) (jobsFrom w) k noJob h (omega (arith, length-listed (jobAt w) 16))
+      ∙ ap (λ (x : Job). x ∷ drop (k + 1) (jobsOf (heldJobs w))) (listed-at (jobAt w) 16 k noJob (omega arith) ∙ sym e)
+
+  pub job-over : (k : ℕ) → w 3 ≤ k → drop k (jobsOf (heldJobs w)) ≡ []
+  job-over k h = held-over (w 3) (jobsFrom w) k h
 
 module _ (w : Words) (at : ℕ) (small : w at ≤ 32) where
   long : length (usesFrom w (at + 1)) ≡ 32
@@ -40,10 +51,8 @@ lines-next w k h =
     left-next (linesFrom w) k noLine (omega (arith, length-listed (lineAt w) 16))
     ∙ ap (λ (x : Line). x ∷ drop (k + 1) (linesFrom w)) (listed-at (lineAt w) 16 k noLine h)
 
-pub framed-in :
-    (w : List ℕ) (jobs : Jobs) → length w ≡ 5829 → allMarked (wordIn w) ≡ true → jobs ≡ heldJobs (wordIn w)
-    → framed (wordIn w) jobs (lentTable w) ≡ boardIn w
-framed-in w jobs len marks e = rw (marks, e, cells-lent w len) refl
+pub framed-in : (w : List ℕ) → length w ≡ 5829 → allMarked (wordIn w) ≡ true → framed (wordIn w) (lentTable w) ≡ boardIn w
+framed-in w len marks = rw (marks, cells-lent w len) refl
 
 pub unmarked : (w : Words) → allMarked w ≡ false → sound (boardFrom w) ≡ false
 unfolding sound

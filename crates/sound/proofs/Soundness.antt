@@ -1,5 +1,6 @@
 -- The test of a board is true exactly where document 01 calls the board sound.
---   numbers-to, numbers-of   horizon, lead and clock;  jobs-to, jobs-of: the jobs' sizes;  jobs-sized: what the walks of the jobs ask
+--   numbers-to, numbers-of   horizon, lead and clock;  jobs-to, jobs-of: the jobs' sizes
+--   sized-next, jobs-sized   what the walks of the jobs ask: of the next job, and of all
 --   all-to, all-of           a list whose elements are tested one by one
 --   first-to, first-of       sent jobs come first
 --   still-to, still-of       the points of sent jobs stand still
@@ -11,7 +12,7 @@ use mathlib.Core.Logic.{_↔_}
 use mathlib.Core.Bool.{Bool, true, false, false≢true, not, _&&_, _||_}
 use mathlib.Core.List.{List, [], _∷_}
 use native.Mathlib.Omega.{arith}
-use lib.ListN.{length, getD}
+use lib.ListN.{length, getD, drop}
 use lib.Dec.{leb, eqb}
 use borrow.Author.Tests.{leb-true, le-leb, eqb-true, eq-eqb, not-true}
 use Rattle.plain.specs.declared.Job.{Job}
@@ -81,6 +82,14 @@ job-to j h =
 
 job-of : (j : Job) → SizedJob j → sizedJob j ≡ true
 job-of j s = rw (le-leb 2 (j .points) (s .least), le-leb (j .points) 9 (s .most))
+
+-- one more job of a list that is sized
+pub sized-next :
+    (js : List Job) (k : ℕ) (j : Job) → drop k js ≡ j ∷ drop (k + 1) js → allOf sizedJob (drop k js) ≡ true
+    → (j .points ≤ 9) × (allOf sizedJob (drop (k + 1) js) ≡ true)
+sized-next js k j e h =
+    let p = both-true (sizedJob j) (allOf sizedJob (drop (k + 1) js)) (rw e at h) in
+    (job-to j (p .0) .most, p .1)
 
 module _ (jobs : Jobs) where
   jobs-to : sizedJobs jobs ≡ true → (jobs .count ≤ 16) × All SizedJob (jobsOf jobs) × (total (jobsOf jobs) ≤ 64)

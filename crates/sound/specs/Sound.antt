@@ -8,7 +8,7 @@
 --     sizedNumbers, sizedJobs, sizedLine   the numbers are within the limits: of the board, of its jobs, of a line
 --     sentFrom           sent jobs come first
 --     stillSent          each point of a sent job stands still;  standStill: the m points from x on do
---   framed w jobs l      the board that the test has before it: the numbers and lines of words, jobs at hand and a table lent
+--   framed w l           the board that the test has before it: the numbers, jobs and lines of words, and a table lent
 use Prim.Native.Nat.{ℕ, zero, suc, _+_, _≤_, _<_}
 use mathlib.Core.Path.{_≡_}
 use mathlib.Core.Bool.{Bool, true, false, not, _&&_, _||_}
@@ -27,7 +27,7 @@ use Rattle.stn.specs.Table.{bias}
 use Rattle.gaps.specs.Cells.{cell}
 use Rattle.gaps.specs.GapTable.{GapTable, isGapTable}
 use Rattle.boardwords.specs.declared.Board.{Board}
-use Rattle.boardwords.specs.Words.{Words, linesFrom}
+use Rattle.boardwords.specs.Words.{Words, heldJobs, linesFrom}
 
 -- ---- the definition
 
@@ -127,6 +127,6 @@ sound b =
     && (sentFrom true (jobsOf (b .jobs))
     && (isGapTable (b .gaps) (suc (pointsOf b)) (b .horizon) && stillSent (b .gaps) 1 (jobsOf (b .jobs))))))
 
--- a board of the numbers and lines of words, with these jobs and these cells
-abbrev pub framed : Words → Jobs → List ℕ → Board
-framed w jobs l = record { horizon = w 0; lead = w 1; clock = w 2; jobs = jobs; lines = linesFrom w; gaps = l }
+-- a board of the numbers, jobs and lines of words, with these cells
+abbrev pub framed : Words → List ℕ → Board
+framed w l = record { horizon = w 0; lead = w 1; clock = w 2; jobs = heldJobs w; lines = linesFrom w; gaps = l }

@@ -15,20 +15,14 @@ slice-aggregate-write-board c = search needs
 write-board-requires : tie.Need-write-board-requires
 write-board-requires c κs = search needs
 
-slice-aggregate-read-jobs : tie.Need-slice-aggregate-read-jobs
-slice-aggregate-read-jobs c = search needs
-
-read-jobs-requires : tie.Need-read-jobs-requires
-read-jobs-requires c κs = search needs
-
 slice-aggregate-is-sound-in : tie.Need-slice-aggregate-is-sound-in
 slice-aggregate-is-sound-in c = search needs
 
 is-sound-in-requires : tie.Need-is-sound-in-requires
-is-sound-in-requires c κs = (search needs, c .before .read-jobs .ensures)
+is-sound-in-requires c κs = search needs
 
 returns : tie.Need-returns
-returns c = c .is-sound-in .ensures ∙ ap (λ (w : List ℕ). sound (boardIn w)) (c .before .before .before .before .before .write-board .ensures .0) ∙ sound-by-words (c .before .before .before .before .before .before .before .args .b) (c .before .before .before .before .before .write-board .ensures .1)
+returns c = c .is-sound-in .ensures ∙ ap (λ (w : List ℕ). sound (boardIn w)) (c .before .before .before .write-board .ensures .0) ∙ sound-by-words (c .before .before .before .before .before .args .b) (c .before .before .before .write-board .ensures .1)
 
 pub is-sound-spec : {M : Type 1} → statement M
 is-sound-spec =
@@ -36,8 +30,6 @@ is-sound-spec =
     (tie.spec
     slice-aggregate-write-board
     write-board-requires
-    slice-aggregate-read-jobs
-    read-jobs-requires
     slice-aggregate-is-sound-in
     is-sound-in-requires
     returns)

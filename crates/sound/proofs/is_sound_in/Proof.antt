@@ -30,7 +30,7 @@ are-clauses-kept-requires c κs = search needs
 
 returns-2 : tie.Need-returns-2
 returns-2 c = let w = c .before .before .before .before .before .args .w .now in
-    c .are-clauses-kept .ensures ∙ ap sound (framed-in w _ (c .before .before .before .before .before .pre .0) (holds (c .before .before .before .are-marked .ensures) (c .before .before .if1 .left)) (c .before .before .before .before .before .pre .1))
+    c .are-clauses-kept .ensures ∙ ap sound (framed-in w (c .before .before .before .before .before .pre) (holds (c .before .before .before .are-marked .ensures) (c .before .before .if1 .left)))
 
 pub is-sound-in-spec : {M : Type 1} → statement M
 is-sound-in-spec =

@@ -26,29 +26,29 @@ returns c = unanswered (c .before .before .before .before .before .before .befor
 enum-told : tie.Need-enum-told
 enum-told c = search needs
 
-read-jobs-requires : tie.Need-read-jobs-requires
-read-jobs-requires c κs = search needs
-
 is-sound-in-requires : tie.Need-is-sound-in-requires
-is-sound-in-requires c κs = (c .before .before .before .before .before .before .before .before .before .pre, c .before .read-jobs .ensures)
+is-sound-in-requires c κs = search needs
 
 same-length : tie.Need-same-length
 same-length c = search needs
 
 returns-2 : tie.Need-returns-2
-returns-2 c = unanswered (c .before .before .before .before .before .before .before .before .before .before .before .args .w .now) _ _ (plain 6) (unsound (boardIn (c .before .before .before .before .before .before .before .before .before .before .before .args .w .now)) (c .before .before .before .before .before .before .before .before .before .before .before .args .plant .now) (c .before .before .before .before .before .before .before .before .before .before .before .args .offer .now) (sym (c .before .before .before .before .before .before .before .check-plant .ensures) ∙ c .before .before .before .before .before .enum-told .given .1) (sym (c .before .is-sound-in .ensures) ∙ not-true _ (c .if1 .taken)))
+returns-2 c = unanswered (c .before .before .before .before .before .before .before .before .before .args .w .now) _ _ (plain 6) (unsound (boardIn (c .before .before .before .before .before .before .before .before .before .args .w .now)) (c .before .before .before .before .before .before .before .before .before .args .plant .now) (c .before .before .before .before .before .before .before .before .before .args .offer .now) (sym (c .before .before .before .before .before .check-plant .ensures) ∙ c .before .before .before .enum-told .given .1) (sym (c .before .is-sound-in .ensures) ∙ not-true _ (c .if1 .taken)))
+
+read-jobs-requires : tie.Need-read-jobs-requires
+read-jobs-requires c κs = search needs
 
 read-trailer-requires : tie.Need-read-trailer-requires
 read-trailer-requires c κs = good _ (sym (c .before .before .before .before .before .before .before .before .check-plant .ensures) ∙ c .before .before .before .before .before .before .enum-told .given .1) .long
 
 plan-offer-requires : tie.Need-plan-offer-requires
-plan-offer-requires c κs = (c .before .before .before .before .before .before .before .before .before .before .before .before .before .pre, ((sym (c .before .before .before .is-sound-in .ensures) ∙ not-false _ (c .before .before .if1 .left)), c .before .before .before .before .before .read-jobs .ensures, (sym (c .before .before .before .before .before .before .before .before .before .check-plant .ensures) ∙ c .before .before .before .before .before .before .before .enum-told .given .1), c .read-trailer .ensures .0))
+plan-offer-requires c κs = (c .before .before .before .before .before .before .before .before .before .before .before .before .before .pre, ((sym (c .before .before .before .before .before .is-sound-in .ensures) ∙ not-false _ (c .before .before .before .before .if1 .left)), c .before .before .read-jobs .ensures, (sym (c .before .before .before .before .before .before .before .before .before .check-plant .ensures) ∙ c .before .before .before .before .before .before .before .enum-told .given .1), c .read-trailer .ensures .0))
 
 same-length-2 : tie.Need-same-length-2
 same-length-2 c = search needs
 
 returns-3 : tie.Need-returns-3
-returns-3 c = let is = on-reading (boardIn (c .before .before .before .before .before .before .before .before .before .before .before .before .before .before .before .before .args .w .now)) (c .before .before .before .before .before .before .before .before .before .before .before .before .before .before .before .before .args .plant .now) (c .before .before .before .before .before .before .before .before .before .before .before .before .before .before .before .before .args .offer .now) (sym (c .before .before .before .before .before .before .before .before .before .before .before .before .check-plant .ensures) ∙ c .before .before .before .before .before .before .before .before .before .before .enum-told .given .1) (sym (c .before .before .before .before .before .before .is-sound-in .ensures) ∙ not-false _ (c .before .before .before .before .before .if1 .left)) in
+returns-3 c = let is = on-reading (boardIn (c .before .before .before .before .before .before .before .before .before .before .before .before .before .before .before .before .args .w .now)) (c .before .before .before .before .before .before .before .before .before .before .before .before .before .before .before .before .args .plant .now) (c .before .before .before .before .before .before .before .before .before .before .before .before .before .before .before .before .args .offer .now) (sym (c .before .before .before .before .before .before .before .before .before .before .before .before .check-plant .ensures) ∙ c .before .before .before .before .before .before .before .before .before .before .enum-told .given .1) (sym (c .before .before .before .before .before .before .before .before .is-sound-in .ensures) ∙ not-false _ (c .before .before .before .before .before .before .before .if1 .left)) in
     (c .before .before .plan-offer .ensures .0 ∙ ap (λ (r : Ruled). r .ruling) is, c .before .before .plan-offer .ensures .1 ∙ ap (wordsAfter (c .before .before .before .before .before .before .before .before .before .before .before .before .before .before .before .before .args .w .now)) is)
 
 pub plan-in-spec : {M : Type 1} → statement M
@@ -59,10 +59,10 @@ plan-in-spec =
     enum-known-first
     returns
     enum-told
-    read-jobs-requires
     is-sound-in-requires
     same-length
     returns-2
+    read-jobs-requires
     read-trailer-requires
     plan-offer-requires
     same-length-2

@@ -22,14 +22,14 @@ no-job-requires c κs = search needs
 loop-holds : tie.Need-loop-holds Inv-loop μ-loop
 loop-holds c = (omega arith, ap (replicate 16) (c .no-job .ensures) ∙ filled-none _ 16 _, search needs)
 
-mul-job : tie.Need-mul-job Inv-loop μ-loop
-mul-job c = omega arith
+mul-read-job : tie.Need-mul-read-job Inv-loop μ-loop
+mul-read-job c = omega arith
 
-add-job : tie.Need-add-job Inv-loop μ-loop
-add-job c = omega arith
+add-read-job : tie.Need-add-read-job Inv-loop μ-loop
+add-read-job c = omega arith
 
-job-requires : tie.Need-job-requires Inv-loop μ-loop
-job-requires c κs = omega arith
+read-job-requires : tie.Need-read-job-requires Inv-loop μ-loop
+read-job-requires c κs = omega arith
 
 mul-next : tie.Need-mul-next Inv-loop μ-loop
 mul-next c = omega arith
@@ -44,7 +44,7 @@ loop-less : tie.Need-loop-less Inv-loop μ-loop
 loop-less c = omega arith
 
 loop-again : tie.Need-loop-again Inv-loop μ-loop
-loop-again c = let L = c .before .before .loop in (omega arith, filled-next _ 16 _ (L .next) (L .k) _ (L .inv .1) (omega arith) (c .job .ensures), simp length-set (omega arith))
+loop-again c = let L = c .before .before .loop in (omega arith, filled-next _ 16 _ (L .next) (L .k) _ (L .inv .1) (omega arith) (c .read-job .ensures), simp length-set (omega arith))
 
 returns : tie.Need-returns Inv-loop μ-loop
 returns c = let L = c .before .loop in filled-done _ 16 _ (L .next) (L .k) (L .inv .1) (omega arith)
@@ -57,9 +57,9 @@ jobs-spec =
     μ-loop
     no-job-requires
     loop-holds
-    mul-job
-    add-job
-    job-requires
+    mul-read-job
+    add-read-job
+    read-job-requires
     mul-next
     array-set-from-next
     add-k

@@ -10,8 +10,8 @@ use Rattle.boardwords.proofs.Listed.{length-listed}
 use Rattle.sound.specs.Sound.{allOf, sizedLine}
 use Rattle.sound.proofs.Flags.{all-next, all-end}
 use Rattle.sound.proofs.InWords.{lines-next}
-use Rattle.sound.proofs.are_lines_sized.Statement.{statement}
-use Rattle.sound.proofs.are_lines_sized.Tie as tie
+use Rattle.sound.proofs.lining.are_lines_sized.Statement.{statement}
+use Rattle.sound.proofs.lining.are_lines_sized.Tie as tie
 
 abbrev Inv-loop : tie.InvT-loop
 Inv-loop w n ok₀ k₀ ok k = (k ≤ 16) × ((ok && allOf (sizedLine n) (drop k (linesFrom (wordIn w)))) ≡ allOf (sizedLine n) (linesFrom (wordIn w)))

@@ -3,8 +3,8 @@ use borrow.Author.Tests.{le-leb, lt-leb}
 use borrow.Author.Needs.{needs}
 use Rattle.sound.specs.Sound.{sizedLine}
 use Rattle.sound.proofs.Flags.{fails, passes}
-use Rattle.sound.proofs.is_line_sized.Statement.{statement}
-use Rattle.sound.proofs.is_line_sized.Tie as tie
+use Rattle.sound.proofs.lining.is_line_sized.Statement.{statement}
+use Rattle.sound.proofs.lining.is_line_sized.Tie as tie
 
 mul-if1 : tie.Need-mul-if1
 mul-if1 c = search needs

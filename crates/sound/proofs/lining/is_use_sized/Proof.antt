@@ -1,7 +1,7 @@
 -- `is_use_sized` meets its contract: the same comparisons in the same order.
 use mathlib.Core.Path.{refl}
-use Rattle.sound.proofs.is_use_sized.Statement.{statement}
-use Rattle.sound.proofs.is_use_sized.Tie as tie
+use Rattle.sound.proofs.lining.is_use_sized.Statement.{statement}
+use Rattle.sound.proofs.lining.is_use_sized.Tie as tie
 
 returns : tie.Need-returns
 returns c = refl

@@ -10,8 +10,8 @@ use Rattle.boardwords.specs.Words.{wordIn, lineFrom}
 use Rattle.sound.specs.Sound.{allOf, sizedUse}
 use Rattle.sound.proofs.Flags.{all-next, all-end}
 use Rattle.sound.proofs.InWords.{use-next, use-over}
-use Rattle.sound.proofs.are_uses_sized.Statement.{statement}
-use Rattle.sound.proofs.are_uses_sized.Tie as tie
+use Rattle.sound.proofs.lining.are_uses_sized.Statement.{statement}
+use Rattle.sound.proofs.lining.are_uses_sized.Tie as tie
 
 abbrev Inv-loop : tie.InvT-loop
 Inv-loop w at n count ok₀ k₀ ok k =

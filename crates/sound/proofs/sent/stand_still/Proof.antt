@@ -6,8 +6,8 @@ use borrow.Author.Needs.{needs}
 use Rattle.lists.proofs.AllBelow.{allBelow-none, allBelow-next}
 use Rattle.gaps.proofs.Overlaid.{origin-row, origin-column}
 use Rattle.sound.specs.Sound.{standStill}
-use Rattle.sound.proofs.stand_still.Statement.{statement}
-use Rattle.sound.proofs.stand_still.Tie as tie
+use Rattle.sound.proofs.sent.stand_still.Statement.{statement}
+use Rattle.sound.proofs.sent.stand_still.Tie as tie
 
 abbrev Inv-loop : tie.InvT-loop
 Inv-loop t x m ok₀ k₀ ok k = (k ≤ m) × (ok ≡ standStill t x k)

@@ -1,8 +1,8 @@
 -- `sound::is_job_still` meets its contract. An unsent job may move.
 use native.Mathlib.Omega.{arith}
 use borrow.Author.Needs.{needs}
-use Rattle.sound.proofs.is_job_still.Statement.{statement}
-use Rattle.sound.proofs.is_job_still.Tie as tie
+use Rattle.sound.proofs.sent.is_job_still.Statement.{statement}
+use Rattle.sound.proofs.sent.is_job_still.Tie as tie
 
 returns : tie.Need-returns
 returns c = rw (c .if1 .taken)

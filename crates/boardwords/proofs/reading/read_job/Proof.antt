@@ -1,7 +1,7 @@
--- `job` meets its contract: a word for each field.
+-- `read_job` meets its contract: a word for each field.
 use borrow.Author.Needs.{needs}
-use Rattle.boardwords.proofs.reading.job.Statement.{statement}
-use Rattle.boardwords.proofs.reading.job.Tie as tie
+use Rattle.boardwords.proofs.reading.read_job.Statement.{statement}
+use Rattle.boardwords.proofs.reading.read_job.Tie as tie
 
 word-requires : tie.Need-word-requires
 word-requires c κs = search needs
@@ -21,6 +21,6 @@ word-requires-3 c κs = search needs
 returns : tie.Need-returns
 returns c = rw (c .before .before .word .ensures, c .before .word2 .ensures, c .word3 .ensures)
 
-pub job-spec : {M : Type 1} → statement M
-job-spec =
+pub read-job-spec : {M : Type 1} → statement M
+read-job-spec =
     tie.close (tie.spec word-requires add-word word-requires-2 add-word-2 word-requires-3 returns)

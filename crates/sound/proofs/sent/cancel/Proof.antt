@@ -6,8 +6,8 @@ use borrow.Author.Tests.{ne-eqb}
 use borrow.Author.Needs.{needs}
 use Rattle.stn.specs.Table.{bias}
 use Rattle.sound.proofs.Flags.{cancel-test}
-use Rattle.sound.proofs.cancel.Statement.{statement}
-use Rattle.sound.proofs.cancel.Tie as tie
+use Rattle.sound.proofs.sent.cancel.Statement.{statement}
+use Rattle.sound.proofs.sent.cancel.Tie as tie
 
 mul-if1 : tie.Need-mul-if1
 mul-if1 c = search needs

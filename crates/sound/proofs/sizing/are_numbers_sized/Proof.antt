@@ -1,7 +1,7 @@
 -- `are_numbers_sized` meets its contract: the same comparisons in the same order.
 use mathlib.Core.Path.{refl}
-use Rattle.sound.proofs.are_numbers_sized.Statement.{statement}
-use Rattle.sound.proofs.are_numbers_sized.Tie as tie
+use Rattle.sound.proofs.sizing.are_numbers_sized.Statement.{statement}
+use Rattle.sound.proofs.sizing.are_numbers_sized.Tie as tie
 
 returns : tie.Need-returns
 returns c = refl

@@ -1,0 +1,54 @@
+// The lines: how many uses they hold, and whether each is within the limits and hangs on a live point.
+use boardwords::read_use;
+use plain::Use;
+ghost use mathlib.Core.Path.{_≡_};
+ghost use Prim.Native.Nat.{_+_, _≤_};
+ghost use lib.ListN.{length};
+ghost use Rattle.lines.specs.Held.{lineOf};
+ghost use Rattle.boardwords.specs.Words.{wordIn, lineFrom, linesFrom};
+ghost use Rattle.sound.specs.Sound.{allOf, sizedUse, sizedLine};
+
+fn is_use_sized(u: Use, n: u32) -> bool
+    ensures { λ r. ⌜ r ≡ sizedUse n u ⌝ }
+{
+    (1 <= u.point)
+        & (u.point <= n)
+        & (u.offset <= 1_000_000)
+        & (1 <= u.length)
+        & (u.length <= 1_000_000)
+}
+
+// The uses in use of the line at word `at`.
+fn are_uses_sized(w: &[u32], at: usize, n: u32) -> bool
+    requires { ⌜ (at + 97 ≤ length (now w)) × (wordIn (now w) at ≤ 32) ⌝ }
+    ensures { λ r. ⌜ r ≡ allOf (sizedUse n) (lineOf (lineFrom (wordIn (now (w .entry))) at)) ⌝ }
+{
+    let count = w[at] as usize;
+    let mut ok = true;
+    for k in 0..count {
+        let u = read_use(w, at + 1 + 3 * k);
+        ok = ok & is_use_sized(u, n);
+    }
+    ok
+}
+
+fn is_line_sized(w: &[u32], at: usize, n: u32) -> bool
+    requires { ⌜ at + 97 ≤ length (now w) ⌝ }
+    ensures { λ r. ⌜ r ≡ sizedLine n (lineFrom (wordIn (now (w .entry))) at) ⌝ }
+{
+    if 32 < w[at] {
+        return false;
+    }
+    are_uses_sized(w, at, n)
+}
+
+pub fn are_lines_sized(w: &[u32], n: u32) -> bool
+    requires { ⌜ 1604 ≤ length (now w) ⌝ }
+    ensures { λ r. ⌜ r ≡ allOf (sizedLine n) (linesFrom (wordIn (now (w .entry)))) ⌝ }
+{
+    let mut ok = true;
+    for k in 0..16 {
+        ok = ok & is_line_sized(w, 52 + 97 * k, n);
+    }
+    ok
+}
