@@ -13,12 +13,12 @@ use lib.IntN.{pos, _+ℤ_}
 use lib.Signed.{_≤ℤ_}
 use borrow.Author.Tests.{leb-false}
 use Rattle.plain.specs.declared.Use.{Use}
-use Rattle.plain.specs.declared.Rule.{Rule}
 use Rattle.plain.specs.Plain.{endOf, goes, endsBy, allEndBy}
 use Rattle.plain.specs.Rules.{Times, AllKept}
 use Rattle.plain.proofs.Whole.{up, dn, of-below, add-spec}
 use Rattle.plain.proofs.Rules.{Keeps, KeepsAll, keeps-to, keeps-append}
 use Rattle.stn.specs.Table.{bias, Table, implied}
+use Rattle.stn.proofs.Fits.{implied-append}
 use Rattle.stn.proofs.Pick.{Number, leaves, stays, number, goes-yes}
 use Rattle.agreement.specs.Retire.{HeldIn, Held}
 
@@ -69,15 +69,6 @@ module _ (c m : ℕ) (u : Times) (o : u 0 ≡ pos 0) where
 pub both-false : (a b : Bool) → (a && b) ≡ false → (a ≡ false) ⊎ (b ≡ false)
 both-false true b e = inr e
 both-false false b e = inl refl
-
-implied-append : (t : Table) (rs ss : List Rule) → implied t (rs ++ ss) ≡ (implied t rs && implied t ss)
-unfolding implied
-implied-append t [] ss = refl
-implied-append t (r ∷ rs) ss = go (leb (t (r .late) (r .early) + r .more) (bias + r .slack)) (implied-append t rs ss)
-  where
-    go : (a : Bool) → implied t (rs ++ ss) ≡ (implied t rs && implied t ss) → (a && implied t (rs ++ ss)) ≡ ((a && implied t rs) && implied t ss)
-    go true e = e
-    go false e = refl
 
 module _ (t : Table) (c m : ℕ) where
   -- a use of those points whose latest end is after c

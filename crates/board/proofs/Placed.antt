@@ -5,7 +5,7 @@
 use mathlib.Core.Path.{_≡_, refl}
 use mathlib.Core.Bool.{Bool, true, false, cond}
 use mathlib.Core.List.{List, [], _∷_, _++_}
-use Prim.Native.Nat.{ℕ, zero, suc, _+_, _*_, _≤_, _<_}
+use Prim.Native.Nat.{ℕ, zero, suc, _+_, _*_, _≤_}
 use native.Mathlib.Omega.{arith}
 use lib.Dec.{ltb, leb}
 use lib.ListN.{length, getD, set, length-append}
@@ -15,21 +15,9 @@ use Rattle.plain.specs.declared.Use.{Use}
 use Rattle.plain.specs.declared.Put.{Put}
 use Rattle.plain.specs.declared.Rule.{Rule}
 use Rattle.plain.specs.Plain.{noUse, inOrder, inserted, ruleBefore, ruleAfter, usedFrom, placed, Placed}
+use Rattle.lines.proofs.RuleLaws.{before-few, after-few}
 use Rattle.lists.specs.All.{All}
 use Rattle.lists.proofs.All.{all-at, all-get, all-append, all-set}
-
-few-before : (l : List Use) (p : ℕ) (u : Use) → length (ruleBefore l p u) ≤ 1
-unfolding ruleBefore
-few-before l zero u = omega arith
-few-before l (suc p) u = omega arith
-
-few-after : (l : List Use) (p : ℕ) (u : Use) → length (ruleAfter l p u) ≤ 1
-unfolding ruleAfter
-few-after l p u = go (ltb p (length l))
-  where
-    go : (b : Bool) → length (cond b (inOrder u (getD l p noUse) ∷ []) []) ≤ 1
-    go true = omega arith
-    go false = omega arith
 
 module _ (U : Use → Type 0) (R : Rule → Type 0) (order : (a b : Use) → U a → U b → R (inOrder a b)) where
   unfoldable pub Placing : ℕ → Placed → Type 0
@@ -88,8 +76,8 @@ module _ (U : Use → Type 0) (R : Rule → Type 0) (order : (a b : Use) → U a
             arith,
             length-append rs made,
             length-append (ruleBefore line (p .place) u) (ruleAfter line (p .place) u),
-            few-before line (p .place) u,
-            few-after line (p .place) u,
+            before-few line (p .place) u,
+            after-few line (p .place) u,
           )
 
       next-all : All (All U) next

@@ -1,6 +1,5 @@
 -- Send mirrors the board's: the earliest times of the table are the least values, and together they are a timetable, so that setting
 -- points to them always leaves one; and a point that is set stands still.
---   Below n xs             each of these points is among the first n
 --   least-all, freeze-is   the earliest times are the least values, and any least values set the same rules
 --   frozen-still           what is set stands still
 --   total-marked, live-sent   send adds no point
@@ -21,6 +20,7 @@ use Rattle.plain.specs.Plain
 use Rattle.plain.specs.Rules.{Times, RuleOn, AllKept}
 use Rattle.plain.proofs.Whole.{up}
 use Rattle.plain.proofs.Rules.{KeepsAll, keeps-of}
+use Rattle.plain.proofs.Points.{Below, unsent-below}
 use Rattle.stn.specs.Table.{Table, Closed, Fits, Still, addAll, Within, earliest, soonest}
 use Rattle.stn.proofs.Fits.{implied-of, soonest-fits, soonest-origin}
 use Rattle.stn.proofs.Add.{Added, addAll-added}
@@ -33,34 +33,8 @@ use Rattle.demands.proofs.Values.{least-at, least-is}
 
 -- ---- the points that are set
 
-unfoldable Below : ℕ → List ℕ → Type 0
-Below n [] = Unit {0}
-Below n (x ∷ xs) = (x < n) × Below n xs
-
-below-append : (n : ℕ) (xs ys : List ℕ) → Below n xs → Below n ys → Below n (xs ++ ys)
-unfolding Below
-below-append n [] ys a b = b
-below-append n (x ∷ xs) ys a b = (a .0, below-append n xs ys (a .1) b)
-
-range-below : (n m x : ℕ) → x + m ≤ n → Below n (Plain.range x m)
-unfolding Below Plain.range
-range-below n zero x le = tt
-range-below n (suc m) x le = (omega arith, range-below n m (suc x) (omega arith))
-
-unsent-below : (n k : ℕ) (js : List Job) (x : ℕ) → x + Plain.total js ≤ n → Below n (Plain.unsentPoints x k js)
-unfolding Below Plain.unsentPoints Plain.total
-unsent-below n zero js x le = tt
-unsent-below n (suc k) [] x le = tt
-unsent-below n (suc k) (j ∷ js) x le =
-    below-append n (cond (j .sent) [] (Plain.range x (j .points))) (Plain.unsentPoints (x + j .points) k js) (go (j .sent))
-    (unsent-below n k js (x + j .points) (omega arith))
-  where
-    go : (b : Bool) → Below n (cond b [] (Plain.range x (j .points)))
-    go true = tt
-    go false = range-below n (j .points) x (omega arith)
-
 freeze-within : (n : ℕ) (v : ℕ → ℕ) (xs : List ℕ) → 0 < n → Below n xs → Within n (Plain.freeze v xs)
-unfolding Below Within Plain.freeze Plain.notBefore Plain.notAfter
+unfolding Within Plain.freeze Plain.notBefore Plain.notAfter
 freeze-within n v [] z a = tt
 freeze-within n v (x ∷ xs) z a = (z, a .0, (a .0, z, freeze-within n v xs z (a .1)))
 
@@ -68,13 +42,13 @@ freeze-within n v (x ∷ xs) z a = (z, a .0, (a .0, z, freeze-within n v xs z (a
 
 module _ {s : Plain.State} {c : Table} {rs : List (RuleOn Point)} (h : Holds s c rs) where
   least-all : (xs : List ℕ) → Below (Plain.liveCount s) xs → AllLeast (book s rs) (earliest c) xs
-  unfolding AllLeast Below
+  unfolding AllLeast
   least-all [] a = tt
   least-all (x ∷ xs) a = (least-at h x (a .0), least-all xs (a .1))
 
   freeze-is :
       (v : ℕ → ℕ) (xs : List ℕ) → Below (Plain.liveCount s) xs → AllLeast (book s rs) v xs → Plain.freeze v xs ≡ Plain.freeze (earliest c) xs
-  unfolding AllLeast Below Plain.freeze
+  unfolding AllLeast Plain.freeze
   freeze-is v [] a l = refl
   freeze-is v (x ∷ xs) a l = rw (least-is h x (v x) (a .0) (l .0), freeze-is v xs (a .1) (l .1))
 
@@ -97,7 +71,7 @@ StillAll d (x ∷ xs) = Still d x × StillAll d xs
 frozen-still :
     (n : ℕ) (d : Table) (v : ℕ → ℕ) (xs : List ℕ) → Closed n d → 0 < n → Below n xs
     → ((t : Times) → t 0 ≡ pos 0 → Fits n d t → KeepsAll t (Plain.freeze v xs)) → StillAll d xs
-unfolding AllKept Plain.freeze Plain.notBefore Plain.notAfter StillAll Below
+unfolding AllKept Plain.freeze Plain.notBefore Plain.notAfter StillAll
 frozen-still n d v [] cl z a k = tt
 frozen-still n d v (x ∷ xs) cl z a k = (
   omega (

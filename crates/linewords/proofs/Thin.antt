@@ -20,6 +20,7 @@ use Rattle.boardwords.specs.Words.{wordIn, useFrom, useAt, usesFrom, lineFrom}
 use Rattle.boardwords.specs.Codec.{useWords, lineWords, put}
 use Rattle.boardwords.proofs.Listed.{length-listed, listed-at, past}
 use Rattle.linewords.specs.Thinned.{Thinned}
+use Rattle.boardwords.proofs.Back.{same-use as use-of}
 use Rattle.boardwords.proofs.Boards.{held-size}
 use Rattle.boardwords.proofs.Put.{put-below, put-from}
 use Rattle.linewords.proofs.Places.{put-at}
@@ -71,10 +72,7 @@ module _ (f m : ℕ) (w₀ : List ℕ) (at : ℕ) where
         let p : wordIn x (at + 3 * n) ≡ v .point = word-at (at + 3 * n) 0 (omega arith) (omega arith) in
         let q : wordIn x (at + 3 * n + 1) ≡ v .offset = word-at (at + 3 * n + 1) 1 refl (omega arith) in
         let r : wordIn x (at + 3 * n + 2) ≡ v .length = word-at (at + 3 * n + 2) 2 refl (omega arith) in
-        three v p q r
-      where
-        three : (u : Use) {a b c : ℕ} → a ≡ u .point → b ≡ u .offset → c ≡ u .length → record { point = a; offset = b; length = c } ≡ u
-        three u p q r = rw (p, q, r)
+        use-of v p q r
 
     -- the uses us stood there, and behind them comes what stays of one use: o
     thin-next :

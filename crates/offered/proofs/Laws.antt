@@ -1,6 +1,6 @@
 -- Laws of an offer's steps and allocations, read one after the other. Assumes nothing.
 --   action-within, action-known, record-is, step-within   the step that the reader stands at: its action is the plant's, its bytes lie in the offer
---   first-at, next-at   where the first step starts, and the next one;  count-at: how many allocations it has
+--   next-at             where the next step starts;  count-at: how many allocations it has
 --   length-steps, steps-none, steps-next, steps-done      the steps held: none, one more, all of them
 --   put-is, held-length, push-is, length-step-puts        an allocation, and one more of them held
 --   StepHeld, step-none, step-count, step-over            the allocations of a step held behind others
@@ -53,10 +53,6 @@ module _ (p o : List ℕ) (k at : ℕ) (r : offerRuling p o ≡ Accepted) (below
     pub next-at : (n : ℕ) → n ≡ getD p (start + 24) 0 → at + 4 + 4 * n ≡ stepStart p o (k + 1)
     unfolding stepStart
     next-at n en = end-is n en ∙ rw (add-one k, ← ea)
-
-pub first-at : (p o : List ℕ) → 24 ≡ stepStart p o 0
-unfolding stepStart
-first-at p o = refl
 
 -- ---- the steps held
 

@@ -24,6 +24,7 @@ use Rattle.lines.specs.Held.{lineOf, linesOf, noLine}
 use Rattle.lines.specs.Asked.{AllShort, Lined}
 use Rattle.lines.proofs.Lists.{held-next, map-at}
 use Rattle.boardwords.specs.Words.{Words, useFrom, useAt, usesFrom, lineFrom, lineAt, linesFrom}
+use Rattle.boardwords.proofs.Boards.{line-of}
 use Rattle.boardwords.proofs.Listed.{length-listed, listed-at}
 use Rattle.stn.specs.Table.{bias, implied}
 use Rattle.stn.proofs.Fits.{implied-append}
@@ -128,15 +129,12 @@ module _ (w : Words) (at k : ℕ) (few : w at ≤ 32) (h : k < w at) (u : Use) (
 
 -- ---- lines of a board's words
 
-line-read : (w : Words) (k : ℕ) → k < 16 → getD (linesFrom w) k noLine ≡ lineAt w k
-line-read w k h = listed-at (lineAt w) 16 k noLine h
-
 pub lined-read : (w : Words) (k : ℕ) → k < 16 → Lined (linesFrom w) → (w (52 + 97 * k) ≤ 32) × AllShort (lineOf (lineAt w k))
 lined-read w k h l =
     let size : length (linesFrom w) ≡ 16 = length-listed (lineAt w) 16 in
     let held : getD (linesOf (linesFrom w)) k [] ≡ lineOf (lineAt w k) =
-    map-at lineOf (linesFrom w) k noLine [] (omega arith) ∙ ap lineOf (line-read w k h) in
-    (omega (arith, ap (λ (q : Line). q .count) (line-read w k h), l .counts k), subst AllShort held (l .short k))
+    map-at lineOf (linesFrom w) k noLine [] (omega arith) ∙ ap lineOf (line-of w k h) in
+    (omega (arith, ap (λ (q : Line). q .count) (line-of w k h), l .counts k), subst AllShort held (l .short k))
 
 module _ (l : List ℕ) (c f m : ℕ) (w : Words) (k : ℕ) (ok : Bool)
     (is : (ok && linesEnd l c f m (drop k (linesFrom w))) ≡ linesEnd l c f m (linesFrom w)) where
@@ -145,7 +143,7 @@ module _ (l : List ℕ) (c f m : ℕ) (w : Words) (k : ℕ) (ok : Bool)
       → (ok && test && linesEnd l c f m (drop (k + 1) (linesFrom w))) ≡ linesEnd l c f m (linesFrom w)
   read-line-next test h t =
       lines-next l c f m (linesFrom w) k ok is test (omega (arith, length-listed (lineAt w) 16))
-      (t ∙ ap (λ (q : Line). usesEnd l c f m (lineOf q)) (sym (line-read w k h)))
+      (t ∙ ap (λ (q : Line). usesEnd l c f m (lineOf q)) (sym (line-of w k h)))
 
   pub read-line-end : 16 ≤ k → ok ≡ linesEnd l c f m (linesFrom w)
   read-line-end h = lines-end l c f m (linesFrom w) k ok is (omega (arith, length-listed (lineAt w) 16))

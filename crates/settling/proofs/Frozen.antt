@@ -1,53 +1,26 @@
 -- Laws of points set equal to their earliest times in a closed table. Setting one to its earliest time changes no other's: the column of
 -- gaps to the origin, where the earliest times stand, stays as it is. So every such rule agrees.
---   Below n xs             each of these points is among the first n;  range-below, unsent-below: of ranges, of unsent jobs' points
 --   Same n l m             m is closed, and has the earliest times of l
 --   point-is, point-same   one point set: only its upper rule changes a cell, and the earliest times stay
 --   asked, frozen-one      what the code of one point asks, and what it gives
 --   frozen-same            points set one after the other;  frozen-append: first some, then others
 --   Freezing l n xs t left   the table t comes of l by setting points of xs, and `left` are left to set
 --   begins, goes-on, ends  one law for each place of a loop
-use Prim.Native.Nat.{ℕ, zero, suc, _+_, _-_, _≤_, _<_}
+use Prim.Native.Nat.{ℕ, suc, _+_, _-_, _≤_, _<_}
 use native.Mathlib.Omega.{arith}
 use mathlib.Core.Path.{_≡_, refl, sym, ap, ap₂, subst, _∙_}
-use mathlib.Core.Bool.{Bool, true, false, cond}
+use mathlib.Core.Bool.{cond}
 use mathlib.Core.List.{List, [], _∷_, _++_}
 use lib.ListN.{length}
 use Rattle.plain.specs.declared.Job.{Job}
 use Rattle.plain.specs.declared.Rule.{Rule}
-use Rattle.plain.specs.Plain.{total, notBefore, notAfter, freeze, range, unsentPoints}
+use Rattle.plain.specs.Plain.{notBefore, notAfter, freeze, range, unsentPoints}
+use Rattle.plain.proofs.Points.{Below}
 use Rattle.stn.specs.Table.{bias, Closed, Agrees, add, earliest}
 use Rattle.gaps.specs.Cells.{cell, tableOf, added, Usable}
 use Rattle.gaps.proofs.Added.{added-length, added-agree, added-closed, added-known}
 use Rattle.settling.specs.Settled.{addedEach}
 use Rattle.settling.specs.Frozen.{frozen}
-
--- ---- points
-
-abbrev pub Below : ℕ → List ℕ → Type 0
-Below n [] = Unit {0}
-Below n (x ∷ xs) = (x < n) × Below n xs
-
-below-append : (n : ℕ) (xs ys : List ℕ) → Below n xs → Below n ys → Below n (xs ++ ys)
-below-append n [] ys a b = b
-below-append n (x ∷ xs) ys a b = (a .0, below-append n xs ys (a .1) b)
-
-pub range-below : (n m x : ℕ) → x + m ≤ n → Below n (range x m)
-unfolding range
-range-below n zero x le = tt
-range-below n (suc m) x le = (omega arith, range-below n m (suc x) (omega arith))
-
-pub unsent-below : (n k : ℕ) (js : List Job) (x : ℕ) → x + total js ≤ n → Below n (unsentPoints x k js)
-unfolding unsentPoints total
-unsent-below n zero js x le = tt
-unsent-below n (suc k) [] x le = tt
-unsent-below n (suc k) (j ∷ js) x le =
-    below-append n (cond (j .sent) [] (range x (j .points))) (unsentPoints (x + j .points) k js) (go (j .sent))
-    (unsent-below n k js (x + j .points) (omega arith))
-  where
-    go : (b : Bool) → Below n (cond b [] (range x (j .points)))
-    go true = tt
-    go false = range-below n (j .points) x (omega arith)
 
 -- ---- tables
 

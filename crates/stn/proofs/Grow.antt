@@ -1,5 +1,6 @@
 -- New points, each from 0 to H. A new point hangs on the origin: a gap to it is the gap to the origin plus H, and a gap from it is that
 -- from the origin.
+--   grow-old              two old points keep their cell
 --   grow-closed           the table with one more point is closed
 --   grow-fits             its timetables are those of the table that have the new point from 0 to H
 --   growAll-closed, -fits the same of k new points: rule (a), `bounds`
@@ -19,7 +20,7 @@ use Rattle.stn.proofs.Fits.{fits-to, fits-of}
 -- ---- the cells
 
 module _ (H n : ℕ) (c : Table) where
-  grow-old : (a b : ℕ) → a < n → b < n → grow H n c a b ≡ c a b
+  pub grow-old : (a b : ℕ) → a < n → b < n → grow H n c a b ≡ c a b
   unfolding grow
   grow-old a b ha hb = simp (ne-eqb a n (λ e. omega arith), ne-eqb b n (λ e. omega arith))
 

@@ -3,7 +3,8 @@ use mathlib.Core.Path.{ap, _∙_, _≡_, refl}
 use Rattle.offer.specs.Offer.{stepCount, stepStart}
 use lib.ListN.{replicate}
 use Rattle.plain.specs.declared.Step.{Step}
-use Rattle.offered.proofs.Laws.{steps-done, first-at, action-within, action-known, record-is, step-within, next-at, steps-none, steps-next}
+use Rattle.offer.proofs.Steps.{first-start}
+use Rattle.offered.proofs.Laws.{steps-done, action-within, action-known, record-is, step-within, next-at, steps-none, steps-next}
 use Rattle.lines.specs.Padded.{padded}
 use Rattle.offer.proofs.Steps.{read-of}
 use Rattle.rulebook.specs.Reading.{stepsFrom}
@@ -29,7 +30,7 @@ offset-at-requires c κs = read-of _ _ (c .before .before .before .pre .2) .long
 loop-holds : tie.Need-loop-holds Inv-loop μ-loop
 loop-holds c = let e = c .offset-at .ensures .0 in
     let f = read-of _ _ (c .before .before .before .before .pre .2) .few in
-    (omega arith, refl, first-at _ _, ap (λ (z : Step). replicate 8 z) (c .before .no-step .ensures) ∙ steps-none _ _, e, omega (arith, e, f))
+    (omega arith, refl, first-start _ _, ap (λ (z : Step). replicate 8 z) (c .before .no-step .ensures) ∙ steps-none _ _, e, omega (arith, e, f))
 
 u32-at-requires : tie.Need-u32-at-requires Inv-loop μ-loop
 u32-at-requires c κs = let e = c .before .loop .inv .4 in action-within _ _ _ _ (c .before .before .before .before .before .before .pre .2) (omega (arith, e)) (c .before .loop .inv .2)

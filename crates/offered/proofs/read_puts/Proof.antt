@@ -1,6 +1,7 @@
 -- `read_puts` meets its contract. The loop's invariant: `at` is where step k starts, and the allocations of the first k steps are held
 -- (`PutsHeld`), at most 4 of each.
-use Rattle.offered.proofs.Laws.{count-at, first-at, action-within, action-known, record-is, step-within, next-at, PutsHeld, puts-none, puts-tidy, puts-more, puts-done}
+use Rattle.offer.proofs.Steps.{first-start}
+use Rattle.offered.proofs.Laws.{count-at, action-within, action-known, record-is, step-within, next-at, PutsHeld, puts-none, puts-tidy, puts-more, puts-done}
 use Rattle.offer.specs.Offer.{stepStart, stepCount}
 use Rattle.offer.proofs.Steps.{read-of}
 use Prim.Native.Nat.{_≤_, _-_}
@@ -25,7 +26,7 @@ u32-at-requires c κs = read-of _ _ (c .before .before .before .pre .2) .long
 loop-holds : tie.Need-loop-holds Inv-loop μ-loop
 loop-holds c = let e = c .u32-at .ensures in
     let f = read-of _ _ (c .before .before .before .before .pre .2) .few in
-    (omega arith, first-at _ _, puts-none _ _ _ (c .before .no-put .ensures), e, omega (arith, e, f))
+    (omega arith, first-start _ _, puts-none _ _ _ (c .before .no-put .ensures), e, omega (arith, e, f))
 
 u32-at-requires-2 : tie.Need-u32-at-requires-2 Inv-loop μ-loop
 u32-at-requires-2 c κs = let e = c .before .loop .inv .3 in action-within _ _ _ _ (c .before .before .before .before .before .before .pre .2) (omega (arith, e)) (c .before .loop .inv .1)

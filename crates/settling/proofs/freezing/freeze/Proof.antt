@@ -7,7 +7,8 @@ use borrow.Author.Needs.{needs}
 use Rattle.plain.specs.Plain.{total, unsentPoints}
 use Rattle.lines.specs.Held.{jobsOf, noJob}
 use Rattle.lines.proofs.Lists.{held-next, length-mapped}
-use Rattle.settling.proofs.Frozen.{Freezing, begins, goes-on, ends, unsent-below, unsent-first, unsent-next, unsent-over}
+use Rattle.plain.proofs.Points.{unsent-below}
+use Rattle.settling.proofs.Frozen.{Freezing, begins, goes-on, ends, unsent-first, unsent-next, unsent-over}
 use Rattle.settling.proofs.freezing.freeze.Statement.{statement}
 use Rattle.settling.proofs.freezing.freeze.Tie as tie
 

@@ -4,7 +4,8 @@ use native.Mathlib.Omega.{arith}
 use mathlib.Core.List.{[], _∷_}
 use borrow.Author.Needs.{needs}
 use Rattle.plain.specs.Plain.{range}
-use Rattle.settling.proofs.Frozen.{Freezing, begins, goes-on, ends, range-below, range-first, range-next, range-over}
+use Rattle.plain.proofs.Points.{range-below}
+use Rattle.settling.proofs.Frozen.{Freezing, begins, goes-on, ends, range-first, range-next, range-over}
 use Rattle.settling.proofs.freezing.freeze_points.Statement.{statement}
 use Rattle.settling.proofs.freezing.freeze_points.Tie as tie
 
