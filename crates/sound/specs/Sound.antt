@@ -11,7 +11,7 @@
 --   framed w l           the board that the test has before it: the numbers, jobs and lines of words, and a table lent
 use Prim.Native.Nat.{ℕ, zero, suc, _+_, _≤_, _<_}
 use mathlib.Core.Path.{_≡_}
-use mathlib.Core.Bool.{Bool, true, false, not, _&&_, _||_}
+use mathlib.Core.Bool.{Bool, true, not, _&&_, _||_}
 use mathlib.Core.List.{List, [], _∷_}
 use lib.ListN.{getD}
 use lib.Dec.{leb, eqb}
@@ -20,6 +20,7 @@ use Rattle.lines.specs.declared.Jobs.{Jobs}
 use Rattle.plain.specs.declared.Use.{Use}
 use Rattle.lines.specs.declared.Line.{Line}
 use Rattle.plain.specs.Plain.{total}
+pub use Rattle.plain.specs.Sent.{NoneSent, SentFirst}
 use Rattle.lines.specs.Held.{jobsOf, lineOf, noLine}
 use Rattle.lists.specs.All.{All}
 use Rattle.lists.specs.Loops.{allBelow}
@@ -43,13 +44,6 @@ pub record SizedUse (points : ℕ) (u : Use) : Type 0 where
   pub offset : u .offset ≤ 1000000
   pub some : 1 ≤ u .length
   pub length : u .length ≤ 1000000
-
-abbrev pub NoneSent : List Job → Type 0
-NoneSent js = All (λ j. j .sent ≡ false) js
-
-abbrev pub SentFirst : List Job → Type 0
-SentFirst [] = Unit {0}
-SentFirst (j ∷ js) = (j .sent ≡ false → NoneSent js) × SentFirst js
 
 abbrev pub StillSent : List ℕ → ℕ → List Job → Type 0
 StillSent l x [] = Unit {0}
