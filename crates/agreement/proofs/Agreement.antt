@@ -3,7 +3,7 @@
 --   call-answered  the answer to a call is the abstract board's
 --   call-sound     the board after a call is sound again, its arrays of their lengths
 --   call-agrees    every outcome of a call in the rule book has the board's ruling and a book beside the board after the call, and there is one
-use mathlib.Core.Path.{sym, subst, _∙_}
+use mathlib.Core.Path.{_≡_, sym, subst, _∙_}
 use Rattle.rulings.specs.declared.Ruling.{Ruling}
 use Rattle.plain.specs.Plain.{State}
 use Rattle.gaps.specs.Cells.{tableOf}
@@ -15,7 +15,8 @@ use Rattle.demands.specs.Model.{Answer, step}
 use Rattle.demands.specs.Beside.{Holds, Sim}
 use Rattle.demands.proofs.Step.{sim-keeps, sim-exists}
 use Rattle.demands.proofs.Tidy.{holds-agree}
-use Rattle.agreement.specs.Abstract.{Shaped, abstractOf, Answers, Agreed}
+use Rattle.agreement.specs.Abstract.{Shaped, abstractOf, Agreed}
+use Rattle.agreement.specs.Runs.{answer}
 use Rattle.agreement.proofs.Keeps.{Answered, plan-answered, send-answered, clock-answered}
 use Rattle.agreement.proofs.Retiring.{retire-answered}
 
@@ -31,17 +32,17 @@ carried {a} {m} w k x =
     }
 
 module _ (b : Board) (w : Shaped b) (s : Sound b) where
-  pub call-answered : (call : Call) (a : Ruled) → Answers b call a → Answered a (step (abstractOf b) call)
-  unfolding Answers
+  pub call-answered : (call : Call) (a : Ruled) → a ≡ answer b call → Answered a (step (abstractOf b) call)
+  unfolding answer
   call-answered (plan p o) a e = rw e (plan-answered b w s p o)
   call-answered (send place) a e = rw e (send-answered b w s place)
   call-answered (clock c) a e = rw e (clock-answered b w s c)
   call-answered retire a e = rw e (retire-answered b w s)
 
-  pub call-sound : (call : Call) (a : Ruled) → Answers b call a → Shaped (a .board) × Sound (a .board)
+  pub call-sound : (call : Call) (a : Ruled) → a ≡ answer b call → Shaped (a .board) × Sound (a .board)
   call-sound call a e = let ans = call-answered call a e in (ans .shaped, ans .sound)
 
-  pub call-agrees : (bk : Book) → Sim (abstractOf b) bk → (call : Call) (a : Ruled) → Answers b call a → Agreed (Step bk call) a
+  pub call-agrees : (bk : Book) → Sim (abstractOf b) bk → (call : Call) (a : Ruled) → a ≡ answer b call → Agreed (Step bk call) a
   call-agrees bk x call a e =
       let ans = call-answered call a e in
       let out = sim-exists x call in

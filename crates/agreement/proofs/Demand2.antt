@@ -33,7 +33,8 @@ use Rattle.board.specs.Calls.{decided, heard, planned, sent, clocked}
 use Rattle.demands.specs.Sent.{newest}
 use Rattle.demands.proofs.After20.{after20}
 use Rattle.demands.proofs.Step.{sim-keeps, sim-exists}
-use Rattle.agreement.specs.Abstract.{Shaped, livePoints, bookOf, Answers, Agreed}
+use Rattle.agreement.specs.Abstract.{Shaped, livePoints, bookOf, Agreed}
+use Rattle.agreement.specs.Runs.{answer}
 use Rattle.agreement.specs.Timetables.{Timetable, Minimal, Decided, SetLeast}
 use Rattle.agreement.proofs.Parts.{parts-of, jobs-count}
 use Rattle.agreement.proofs.Books.{sound-sim}
@@ -52,7 +53,7 @@ module _ (b : Board) (w : Shaped b) (s : Sound b) where
       (p o : List ℕ) (offer : Offer) (next : State) (m : ℕ) (rs : List Rule)
       → readingOf p o ≡ good offer → drafted (stateOf b) offer ≡ Draft.go next m rs
       → Decided b 17 (λ u. Timetable b u × KeepsAll u (bounds (upperBound (stateOf b)) (livePoints b) m ++ rs)) (planned b p o)
-  unfolding Answers Step Reads Plans heard decided
+  unfolding answer Step Reads Plans heard decided
   plan-decided p o offer next m rs e d =
       settled-decided b w s 17 next (bounds (upperBound (stateOf b)) (livePoints b) m ++ rs) (planned b p o) _
       (planned-is b w s p o ∙ ap (heard b) e ∙ ap (decided b) d)
@@ -63,7 +64,7 @@ module _ (b : Board) (w : Shaped b) (s : Sound b) where
   pub clock-decided :
       (c : ℕ) → b .clock ≤ c → c ≤ b .horizon
       → Decided b 20 (λ u. Timetable b u × KeepsAll u (starts (c + b .lead) 1 (stateOf b .jobs))) (clocked b c)
-  unfolding Answers Step clocked
+  unfolding answer Step clocked
   clock-decided c lo hi =
       let ok : clockOk (stateOf b) c ≡ true = unfold clockOk in rw (le-leb (b .clock) c lo, le-leb c (b .horizon) hi) in
       let rules : List Rule = starts (c + b .lead) 1 (stateOf b .jobs) in
@@ -75,7 +76,7 @@ module _ (b : Board) (w : Shaped b) (s : Sound b) where
   pub send-decided :
       (place : ℕ) → place < length (stateOf b .jobs) → getD (stateOf b .jobs) place noJob .sent ≡ false
       → SetLeast b (unsentPoints 1 (suc place) (stateOf b .jobs)) (sent b place)
-  unfolding Answers Step
+  unfolding answer Step
   send-decided place there unsent =
       let ok : unsentAt place (stateOf b .jobs) ≡ true = sym (unsent-at (stateOf b .jobs) place there) ∙ ap not unsent in
       sends-least b w s place (unsentPoints 1 (suc place) (stateOf b .jobs)) (sent b place)
@@ -104,7 +105,7 @@ module _ (b : Board) (w : Shaped b) (s : Sound b) where
   plan-14 p o offer e =
       let few = s .jobs in
       let is = jobs-count b w s in
-      let answer : planned b p o ≡ decided b (drafted (stateOf b) offer) = planned-is b w s p o ∙ ap (heard b) e in
-      rw answer
+      let heard-as : planned b p o ≡ decided b (drafted (stateOf b) offer) = planned-is b w s p o ∙ ap (heard b) e in
+      rw heard-as
       (subst (λ (k : ℕ). (decided b (drafted (stateOf b) offer) .ruling ≡ refuse 14) ↔ ((k ≡ 16) ⊎ (64 < total (stateOf b .jobs) + pointsOf offer))) is
       (decided-14 b offer (omega (arith, is, few))))

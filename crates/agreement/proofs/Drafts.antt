@@ -89,7 +89,8 @@ placed-sized n x k i (p ∷ ps) ls rs z le a e b =
     use-sized : SizedUse n (usedFrom x p)
     use-sized =
         let s = a .0 .step in
-        record { not-origin = omega arith; live = omega (arith, s); offset = a .0 .offset; some = a .0 .some; length = a .0 .length }
+        let r = a .0 .readable in
+        record { not-origin = omega arith; live = omega (arith, s); offset = r .offset; some = a .0 .some; length = r .length }
 
     line-sized : SizedLine n line
     line-sized = all-get (SizedLine n) ls (p .resource) [] b (record { few = omega arith; uses = tt })
@@ -138,7 +139,7 @@ module _ {s : State} (p : Limits s) (o : Offer) (sized : SizedOffer o) where
           points = omega (arith, joined-total);
           sixteen = a .0;
           lines = rw joined-total (a .1);
-          sent-first = first-append (s .jobs) (jobFrom o) tt (p .sent-first);
+          sent-first = first-append (s .jobs) (jobFrom o) refl (p .sent-first);
         },
         refl,
       )

@@ -20,7 +20,8 @@ use Rattle.plain.proofs.Rules.{Keeps, KeepsAll, keeps-to, keeps-append}
 use Rattle.stn.specs.Table.{bias, Table, implied}
 use Rattle.stn.proofs.Fits.{implied-append}
 use Rattle.stn.proofs.Pick.{Number, leaves, stays, number, goes-yes}
-use Rattle.agreement.specs.Retire.{HeldIn, Held}
+use Rattle.agreement.specs.Timetables.{In}
+use Rattle.agreement.specs.Retire.{Held}
 
 -- ---- rules that are kept
 
@@ -37,7 +38,7 @@ module _ (c m : ℕ) (u : Times) (o : u 0 ≡ pos 0) where
       ))
 
   over-line :
-      (us : List Use) → KeepsAll u (endsBy c 1 m us) → (x : Use) → HeldIn x us → 1 ≤ x .point → x .point ≤ m
+      (us : List Use) → KeepsAll u (endsBy c 1 m us) → (x : Use) → In x us → 1 ≤ x .point → x .point ≤ m
       → (u (x .point) +ℤ pos (endOf x)) ≤ℤ pos c
   unfolding AllKept endsBy
   over-line [] k x i lo hi = absurd i
@@ -46,8 +47,8 @@ module _ (c m : ℕ) (u : Times) (o : u 0 ≡ pos 0) where
       go :
           (t : Bool) → goes 1 m (y .point) ≡ t
           → KeepsAll u (cond t (record { early = y .point; more = endOf y; late = 0; slack = c } ∷ []) [] ++ endsBy c 1 m us)
-          → (x ≡ y) ⊎ HeldIn x us
-          → (KeepsAll u (endsBy c 1 m us) → (x : Use) → HeldIn x us → 1 ≤ x .point → x .point ≤ m → (u (x .point) +ℤ pos (endOf x)) ≤ℤ pos c)
+          → (x ≡ y) ⊎ In x us
+          → (KeepsAll u (endsBy c 1 m us) → (x : Use) → In x us → 1 ≤ x .point → x .point ≤ m → (u (x .point) +ℤ pos (endOf x)) ≤ℤ pos c)
           → (u (x .point) +ℤ pos (endOf x)) ≤ℤ pos c
       go true e k (inl is) rest = rw is (ended y (k .0))
       go true e k (inr i) rest = rest (k .1) x i lo hi
@@ -75,22 +76,22 @@ module _ (t : Table) (c m : ℕ) where
   abbrev pub Late : Use → Type 0
   Late x = (1 ≤ x .point) × (x .point ≤ m) × (bias + c < t 0 (x .point) + endOf x)
 
-  late-line : (us : List Use) → implied t (endsBy c 1 m us) ≡ false → (x : Use) × HeldIn x us × Late x
+  late-line : (us : List Use) → implied t (endsBy c 1 m us) ≡ false → (x : Use) × In x us × Late x
   unfolding implied endsBy
   late-line [] e = absurd (true≢false e)
   late-line (y ∷ us) e = go (number 1 m (y .point)) (late-line us)
     where
-      further : (x : Use) × HeldIn x us × Late x → (x : Use) × HeldIn x (y ∷ us) × Late x
+      further : (x : Use) × In x us × Late x → (x : Use) × In x (y ∷ us) × Late x
       further q = (q .0, inr (q .1), q .2)
 
       one :
           1 ≤ y .point → y .point ≤ m
           → (leb (t 0 (y .point) + endOf y) (bias + c) ≡ false) ⊎ (implied t (endsBy c 1 m us) ≡ false)
-          → (implied t (endsBy c 1 m us) ≡ false → (x : Use) × HeldIn x us × Late x) → (x : Use) × HeldIn x (y ∷ us) × Late x
+          → (implied t (endsBy c 1 m us) ≡ false → (x : Use) × In x us × Late x) → (x : Use) × In x (y ∷ us) × Late x
       one lo hi (inl f) rest = (y, inl refl, (lo, hi, leb-false _ _ f))
       one lo hi (inr f) rest = further (rest f)
 
-      go : Number 1 m (y .point) → (implied t (endsBy c 1 m us) ≡ false → (x : Use) × HeldIn x us × Late x) → (x : Use) × HeldIn x (y ∷ us) × Late x
+      go : Number 1 m (y .point) → (implied t (endsBy c 1 m us) ≡ false → (x : Use) × In x us × Late x) → (x : Use) × In x (y ∷ us) × Late x
       go (leaves lo hi g) rest = one lo (omega arith) (both-false (leb (t 0 (y .point) + endOf y) (bias + c)) _ (rw g at e)) rest
       go (stays is g) rest = further (rest (rw g at e))
 

@@ -1,4 +1,5 @@
 -- From the rule book back to the board: what a book beside a board says of its table and of its answers.
+--   least-over, greatest-over, gap-over   least and greatest values over a set of timetables, where it is said otherwise
 --   sim-same         the timetables of a board beside a book are those possible in the book
 --   sim-minimal      of a board and a book that are side by side the table is the gap table of what is possible
 --   made-meant       possible once rules are made on a sound board's book: a timetable of the board that keeps them
@@ -14,13 +15,14 @@ use Rattle.rulings.specs.declared.Ruling.{Ruling}
 use Rattle.rulings.specs.declared.Ruling.the-variants.{Accepted}
 use Rattle.rulings.specs.Answer.{plain}
 use Rattle.rulings.proofs.Laws.{refused-no}
+use lib.IntN.{ℤ}
 use Rattle.plain.specs.declared.Rule.{Rule}
 use Rattle.plain.specs.Plain.{State}
 use Rattle.plain.specs.Rules.{Times}
 use Rattle.plain.proofs.Rules.{KeepsAll}
 use Rattle.stn.specs.Table.{soonest}
 use Rattle.gaps.specs.Cells.{tableOf}
-use Rattle.rulebook.specs.Book.{Book, Possible, SomePossible, Least, Gap, made, Refuses, Guarded, Settles}
+use Rattle.rulebook.specs.Book.{Book, Possible, SomePossible, LeastTime, GreatestTime, LargestGap, made, Refuses, Guarded, Settles}
 use Rattle.boardwords.specs.declared.Board.{Board}
 use Rattle.sound.specs.Sound.{Sound}
 use Rattle.board.specs.declared.Ruled.{Ruled}
@@ -33,21 +35,36 @@ use Rattle.agreement.specs.Abstract.{Shaped, abstractOf, bookOf, Agreed}
 use Rattle.agreement.specs.Timetables.{Timetable, Some, Minimal, Decided}
 use Rattle.agreement.proofs.Books.{sound-sim}
 
+-- ---- the same set of timetables, said otherwise
+
+module _ {Y Z : Times → Type 0} (same : (u : Times) → Y u ↔ Z u) where
+  pub least-over : {x v : ℕ} → LeastTime Y x v → LeastTime Z x v
+  least-over l =
+      let t = l .attained in
+      record { attained = (t .0, same (t .0) .0 (t .1), t .2); least = λ u z. l .least u (same u .1 z) }
+
+  pub greatest-over : {x v : ℕ} → GreatestTime Y x v → GreatestTime Z x v
+  greatest-over g =
+      let t = g .attained in
+      record { attained = (t .0, same (t .0) .0 (t .1), t .2); most = λ u z. g .most u (same u .1 z) }
+
+  pub gap-over : {i j : ℕ} {d : ℤ} → LargestGap Y i j d → LargestGap Z i j d
+  gap-over g =
+      let t = g .attained in
+      record { attained = (t .0, same (t .0) .0 (t .1), t .2); most = λ u z. g .most u (same u .1 z) }
+
+-- ---- a board beside its book
+
 module _ (b : Board) (bk : Book) (x : Sim (abstractOf b) bk) where
   pub sim-same : (u : Times) → Timetable b u ↔ Possible bk u
   sim-same u = rw (turned x) (x .holds .same u)
 
   pub sim-minimal : (Y : Times → Type 0) → ((u : Times) → Possible bk u ↔ Y u) → Minimal Y b
-  unfolding Gap Least
   sim-minimal Y meant =
       record {
         same = λ u. (λ t. meant u .0 (sim-same u .0 t), λ y. sim-same u .1 (meant u .1 y));
-        gaps = λ i j hi hj.
-            let g = sim-gap x i j hi hj in
-            record { attained = (g .0 .0, meant (g .0 .0) .0 (g .0 .1), g .0 .2); most = λ u y. g .1 u (meant u .1 y) };
-        earliests = λ i hi.
-            let g = sim-least x i hi in
-            record { attained = (g .0 .0, meant (g .0 .0) .0 (g .0 .1), g .0 .2); least = λ u y. g .1 u (meant u .1 y) };
+        gaps = λ i j hi hj. gap-over meant (sim-gap x i j hi hj);
+        earliests = λ i hi. least-over meant (sim-least x i hi);
         together = meant (soonest (tableOf (b .gaps))) .0 (subst (λ (k : Book). Possible k (soonest (tableOf (b .gaps)))) (sym (turned x)) (soonest-possible (x .holds)));
       }
 

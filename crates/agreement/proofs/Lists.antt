@@ -20,18 +20,17 @@ use Rattle.stn.specs.Table.{bias, soonest}
 use Rattle.gaps.specs.Cells.{cell, tableOf}
 use Rattle.lists.specs.All.{All}
 use Rattle.lists.proofs.All.{all-map}
-use Rattle.rulebook.specs.Book.{Book, Call, plan, send, clock, retire, fresh, emptyLines, Runs}
+use Rattle.rulebook.specs.Book.{Book, Call, fresh, emptyLines, Runs}
 use Rattle.boardwords.specs.declared.Board.{Board}
 use Rattle.sound.specs.Sound.{Sound}
 use Rattle.board.specs.declared.Settings.{Settings}
-use Rattle.board.specs.declared.Ruled.{Ruled}
 use Rattle.board.specs.Boards.{stateOf, badSettings, zeroCells, freshCells, freshRuled, freshBoard}
 use Rattle.board.proofs.FreshSound.{fresh-table, fresh-sound}
 use Rattle.demands.specs.Model as Model
 use Rattle.demands.specs.Beside.{Sim}
 use Rattle.demands.proofs.Step.{fresh-sim}
 use Rattle.demands.proofs.Runs.{book-some}
-use Rattle.agreement.specs.Abstract.{Shaped, abstractOf, Answers}
+use Rattle.agreement.specs.Abstract.{Shaped, abstractOf}
 use Rattle.agreement.specs.Runs.{started, opened, answer, after, rulings, Agreement}
 use Rattle.agreement.proofs.Keeps.{Answered}
 use Rattle.agreement.proofs.Agreement.{carried, call-sound, call-agrees}
@@ -39,27 +38,20 @@ use Rattle.agreement.proofs.Exact.{sim-same}
 use Rattle.agreement.proofs.Demand2.{sound-minimal}
 use Rattle.agreement.proofs.Six.{Not6, call-6}
 
-answers : (b : Board) (call : Call) → Answers b call (answer b call)
-unfolding Answers answer
-answers b (plan p o) = refl
-answers b (send place) = refl
-answers b (clock c) = refl
-answers b retire = refl
-
 -- ---- from any sound board
 
 pub lists-sound : (cs : List Call) (b : Board) → Shaped b → Sound b → Shaped (after b cs) × Sound (after b cs)
 unfolding after
 lists-sound [] b w s = (w, s)
 lists-sound (c ∷ cs) b w s =
-    let q = call-sound b w s c (answer b c) (answers b c) in
+    let q = call-sound b w s c (answer b c) refl in
     lists-sound cs (answer b c .board) (q .0) (q .1)
 
 lists-6 : (cs : List Call) (b : Board) → Shaped b → Sound b → All Not6 (rulings b cs)
 unfolding rulings
 lists-6 [] b w s = tt
 lists-6 (c ∷ cs) b w s =
-    let q = call-sound b w s c (answer b c) (answers b c) in
+    let q = call-sound b w s c (answer b c) refl in
     (call-6 b w s c, lists-6 cs (answer b c .board) (q .0) (q .1))
 
 pub lists-keep :
@@ -68,8 +60,8 @@ pub lists-keep :
 unfolding Runs rulings after
 lists-keep [] b bk w s x rs k p = (p .0, rw (p .1) x)
 lists-keep (c ∷ cs) b bk w s x rs k p =
-    let q = call-sound b w s c (answer b c) (answers b c) in
-    let one = call-agrees b w s bk x c (answer b c) (answers b c) .keeps (p .0) (p .1) (p .3) in
+    let q = call-sound b w s c (answer b c) refl in
+    let one = call-agrees b w s bk x c (answer b c) refl .keeps (p .0) (p .1) (p .3) in
     let rest = lists-keep cs (answer b c .board) (p .1) (q .0) (q .1) (one .1) (p .2) k (p .5) in
     (p .4 ∙ ap₂ _∷_ (one .0) (rest .0), rest .1)
 
@@ -78,8 +70,8 @@ pub lists-exist :
 unfolding Runs rulings
 lists-exist [] b bk w s x = (bk, (refl, refl))
 lists-exist (c ∷ cs) b bk w s x =
-    let q = call-sound b w s c (answer b c) (answers b c) in
-    let agreed = call-agrees b w s bk x c (answer b c) (answers b c) in
+    let q = call-sound b w s c (answer b c) refl in
+    let agreed = call-agrees b w s bk x c (answer b c) refl in
     let out = agreed .exists in
     let y = agreed .keeps (answer b c .ruling) (out .0) (out .1) .1 in
     let rest = lists-exist cs (answer b c .board) (out .0) (q .0) (q .1) y in

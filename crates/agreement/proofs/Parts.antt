@@ -6,7 +6,7 @@
 --   state-back         a state of at most 16 jobs and at most 32 uses in each line (Few) is held by the board made of it
 --   parts-state        so the board made of sound parts holds them;  parts-sound, parts-shaped: it is sound, and its arrays have their lengths
 use mathlib.Core.Path.{_≡_, refl, ap₂, _∙_}
-use mathlib.Core.Bool.{Bool, true, false, not}
+use mathlib.Core.Bool.{Bool, true, false}
 use mathlib.Core.List.{List, [], _∷_}
 use Prim.Native.Nat.{ℕ, zero, suc, _+_, _≤_, _<_}
 use native.Mathlib.Omega.{arith}
@@ -15,6 +15,7 @@ use lib.ListN.{length, getD, length-take, length-map}
 use lib.Seq.{length-take-le}
 use Rattle.plain.specs.declared.Job.{Job}
 use Rattle.plain.specs.declared.Use.{Use}
+use Rattle.plain.specs.Sent.{SentFirst}
 use Rattle.plain.specs.Plain.{State, total, liveCount}
 use Rattle.lines.specs.declared.Line.{Line}
 use Rattle.lines.specs.Held.{noJob, jobsOf, lineOf, lineFrom, linesOf, linesFrom, noLine}
@@ -26,10 +27,8 @@ use Rattle.gaps.specs.GapTable.{GapTable}
 use Rattle.boardwords.specs.declared.Board.{Board}
 use Rattle.lists.specs.All.{All}
 use Rattle.sound.specs.Sound.{SizedJob, SizedUse, StillSent, Sound}
-use Rattle.sound.specs.Sound as Sounds
 use Rattle.board.specs.Boards.{stateOf, boardOf}
 use Rattle.demands.specs.Beside.{Each, StillJobs}
-use Rattle.demands.specs.Sent.{NoneSent, SentFirst}
 use Rattle.agreement.specs.Abstract.{Shaped}
 
 pub record SizedLine (n : ℕ) (us : List Use) : Type 0 where
@@ -58,30 +57,6 @@ pub record Parts (s : State) (l : List ℕ) : Type 0 where
 T-is : (b : Bool) → T b → b ≡ true
 T-is true t = refl
 T-is false t = absurd t
-
-T-not-is : (b : Bool) → T (not b) → b ≡ false
-T-not-is true t = absurd t
-T-not-is false t = refl
-
-none-to : (js : List Job) → Sounds.NoneSent js → NoneSent js
-unfolding NoneSent
-none-to [] a = tt
-none-to (j ∷ js) a = (rw (a .0) tt, none-to js (a .1))
-
-none-of : (js : List Job) → NoneSent js → Sounds.NoneSent js
-unfolding NoneSent
-none-of [] a = tt
-none-of (j ∷ js) a = (T-not-is (j .sent) (a .0), none-of js (a .1))
-
-first-to : (js : List Job) → Sounds.SentFirst js → SentFirst js
-unfolding SentFirst
-first-to [] a = tt
-first-to (j ∷ js) a = ((λ t. none-to js (a .0 (T-not-is (j .sent) t))), first-to js (a .1))
-
-first-of : (js : List Job) → SentFirst js → Sounds.SentFirst js
-unfolding SentFirst
-first-of [] a = tt
-first-of (j ∷ js) a = ((λ e. none-of js (a .0 (rw e tt))), first-of js (a .1))
 
 still-to : (l : List ℕ) (x : ℕ) (js : List Job) → StillSent l x js → StillJobs (tableOf l) x js
 unfolding Each
@@ -119,7 +94,7 @@ parts-of b w s =
             points = s .points;
             sixteen = length-map (b .lines) lineOf ∙ sixteen;
             lines = lines-sized (total (jobsOf (b .jobs))) (b .lines) (λ k h. s .lines k (omega arith)) (λ k h. s .uses k (omega arith));
-            sent-first = first-to (jobsOf (b .jobs)) (s .sent-first);
+            sent-first = s .sent-first;
           };
       cells = w .gaps;
       table = s .table;
@@ -183,7 +158,7 @@ module _ {s : State} {l : List ℕ} (p : Parts s l) where
         points = rw back (q .points);
         lines = λ k h. line-at (total (s .jobs)) (s .lines) (q .lines) k .0;
         uses = λ k h. rw back (line-at (total (s .jobs)) (s .lines) (q .lines) k .1);
-        sent-first = rw back (first-of (s .jobs) (q .sent-first));
+        sent-first = rw back (q .sent-first);
         sent-still = rw back (still-of l 1 (s .jobs) (p .still));
         table = rw back (p .table);
       }

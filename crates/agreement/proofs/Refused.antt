@@ -21,7 +21,7 @@ use Rattle.settling.specs.Settled.{addedEach}
 use Rattle.board.specs.declared.Ruled.{Ruled}
 use Rattle.board.specs.Boards.{stateOf}
 use Rattle.board.specs.Calls.{refusal, accepted, settled, after, decided, heard, planned, sendRules, sent, clocked, left, retired}
-use Rattle.agreement.specs.Abstract.{Answers}
+use Rattle.agreement.specs.Runs.{answer}
 
 module _ (b : Board) (c : Cause) where
   abbrev Same : Ruled → Type 0
@@ -66,8 +66,8 @@ module _ (b : Board) (c : Cause) where
       go true = accepted-same s l
       go false = λ e. refl
 
-  pub refused-same : (call : Call) (a : Ruled) → Answers b call a → a .ruling ≡ Refused c → a .board ≡ b
-  unfolding Answers planned sent clocked retired
+  pub refused-same : (call : Call) (a : Ruled) → a ≡ answer b call → a .ruling ≡ Refused c → a .board ≡ b
+  unfolding answer planned sent clocked retired
   refused-same (plan p o) a e = rw e (after-same (plantRuling p) _ (guarded-same (not (sound b)) 6 _ (heard-same (readingOf p o))))
   refused-same (send place) a e =
       rw e

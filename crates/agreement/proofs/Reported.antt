@@ -16,7 +16,7 @@ use Rattle.rulings.specs.declared.Ruling.the-variants.{Accepted}
 use Rattle.rulings.specs.Answer.{plain}
 use Rattle.rulings.proofs.Laws.{refused-no}
 use Rattle.plain.specs.Plain.{liveCount}
-use Rattle.rulebook.specs.Book.{Greatest}
+use Rattle.rulebook.specs.Book.{GreatestTime}
 use Rattle.stn.specs.Table.{latest}
 use Rattle.gaps.specs.Cells.{tableOf}
 use Rattle.boardwords.specs.declared.Board.{Board}
@@ -29,8 +29,9 @@ use Rattle.report.proofs.Laid.{laid-in, laid-beyond}
 use Rattle.report.proofs.Laws.{found, length-rows}
 use Rattle.demands.proofs.Values.{sim-greatest}
 use Rattle.agreement.specs.Abstract.{Shaped, livePoints}
-use Rattle.agreement.specs.Timetables.{Timetable, GreatestTime, Tells}
+use Rattle.agreement.specs.Timetables.{Timetable, Tells}
 use Rattle.agreement.proofs.Books.{sound-sim}
+use Rattle.agreement.proofs.Exact.{greatest-over}
 use Rattle.agreement.proofs.Demand2.{sound-minimal}
 
 pub rows-many : (b : Board) → suc (length (rowsOf b)) ≡ livePoints b
@@ -39,11 +40,9 @@ rows-many b = ap suc (length-rows (b .gaps) (stateOf b .jobs))
 
 module _ (b : Board) (w : Shaped b) (s : Sound b) where
   greatest-time : (x : ℕ) → x < livePoints b → GreatestTime (Timetable b) x (latest (tableOf (b .gaps)) x)
-  unfolding Greatest
   greatest-time x h =
-      let g = sim-greatest (sound-sim b w s) x h in
       let same = sound-sim b w s .holds .same in
-      record { attained = (g .0 .0, same (g .0 .0) .1 (g .0 .1), g .0 .2); most = λ u t. g .1 u (same u .0 t) }
+      greatest-over (λ u. (same u .1, same u .0)) (sim-greatest (sound-sim b w s) x h)
 
   pub row-tells : (k : ℕ) → k < length (rowsOf b) → Tells b (suc k) (getD (rowsOf b) k noRow)
   unfolding rowsIn

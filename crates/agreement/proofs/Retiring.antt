@@ -30,7 +30,6 @@ use Rattle.board.specs.Boards.{stateOf}
 use Rattle.board.specs.Calls.{refusal, accepted, left, retired}
 use Rattle.demands.specs.Model as Model
 use Rattle.demands.specs.Beside.{Mirrors}
-use Rattle.demands.specs.Sent.{SentFirst}
 use Rattle.demands.proofs.Retire.{retire-mirrors}
 use Rattle.demands.proofs.Tidy.{holds-agree}
 use Rattle.demands.proofs.Tries.{live-positive}
@@ -120,7 +119,7 @@ sized-from (j ∷ js) ls clock horizon lead p = go (j .sent) _ (live, refl, limi
           points = omega (arith, points);
           sixteen = length-map ls (staying 1 (j .points)) ∙ p .sixteen;
           lines = lines-left (j .points) (total js) ls (unfold total in p .lines);
-          sent-first = unfold SentFirst in p .sent-first .1;
+          sent-first = p .sent-first .1;
         }
 
     go :

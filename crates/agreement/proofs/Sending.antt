@@ -15,15 +15,15 @@ use Rattle.plain.proofs.Whole.{up, dn, below-of, whole-eq}
 use Rattle.plain.proofs.Rules.{Keeps, KeepsAll, keeps-to, keeps-of}
 use Rattle.stn.specs.Table.{soonest}
 use Rattle.gaps.specs.Cells.{tableOf}
-use Rattle.rulebook.specs.Book.{Possible, Least, AllLeast, made, Sends}
+use Rattle.rulebook.specs.Book.{Possible, LeastTime, Least, AllLeast, made, Sends}
 use Rattle.boardwords.specs.declared.Board.{Board}
 use Rattle.sound.specs.Sound.{Sound}
 use Rattle.board.specs.declared.Ruled.{Ruled}
 use Rattle.demands.specs.Beside.{Sim}
 use Rattle.agreement.specs.Abstract.{Shaped, abstractOf, bookOf, Agreed}
-use Rattle.agreement.specs.Timetables.{Timetable, LeastTime, In, AtLeast, SetLeast}
+use Rattle.agreement.specs.Timetables.{Timetable, In, AtLeast, SetLeast}
 use Rattle.agreement.proofs.Books.{sound-sim}
-use Rattle.agreement.proofs.Exact.{sim-minimal, made-meant}
+use Rattle.agreement.proofs.Exact.{least-over, sim-minimal, made-meant}
 
 pub least-one : (Y : Times → Type 0) (x v w : ℕ) → LeastTime Y x v → LeastTime Y x w → v ≡ w
 least-one Y x v w a b =
@@ -66,10 +66,9 @@ module _ (u : Times) (o : u 0 ≡ pos 0) (v : ℕ → ℕ) where
 
 module _ (b : Board) (w : Shaped b) (s : Sound b) where
   least-book : (x v : ℕ) → Least (bookOf b) x v → LeastTime (Timetable b) x v
-  unfolding Least
   least-book x v l =
       let same = sound-sim b w s .holds .same in
-      record { attained = (l .0 .0, same (l .0 .0) .1 (l .0 .1), l .0 .2); least = λ u t. l .1 u (same u .0 t) }
+      least-over (λ u. (same u .1, same u .0)) l
 
   all-least : (v : ℕ → ℕ) (xs : List ℕ) → AllLeast (bookOf b) v xs → (x : ℕ) → In x xs → LeastTime (Timetable b) x (v x)
   unfolding AllLeast

@@ -6,7 +6,6 @@
 --   cellRule l i j     the rule of the cell (i, j): time of j + bias is at most time of i + cell
 --   rowRules, tableRules   the rules of the first n cells of row i; of the first k rows
 --   bookOf b           the rule book of the board b
---   Answers b c a      the board's answer to the call c is a
 --   Agreed R a         R, a call's outcomes in the rule book, and the board's answer a agree
 use mathlib.Core.Path.{_≡_}
 use mathlib.Core.List.{List, [], _∷_, _++_}
@@ -20,8 +19,7 @@ use Rattle.gaps.specs.Cells.{cell, tableOf}
 use Rattle.boardwords.specs.declared.Board.{Board}
 use Rattle.board.specs.declared.Ruled.{Ruled}
 use Rattle.board.specs.Boards.{stateOf}
-use Rattle.board.specs.Calls.{planned, sent, clocked, retired}
-use Rattle.rulebook.specs.Book.{Book, Point, Call, plan, send, clock, retire}
+use Rattle.rulebook.specs.Book.{Book, Point}
 use Rattle.demands.specs.Model as Model
 use Rattle.demands.specs.Beside.{Sim}
 
@@ -53,12 +51,6 @@ abbrev pub bookOf : Board → Book
 bookOf b = Model.book (stateOf b) (tableRules (b .gaps) (livePoints b) (livePoints b))
 
 -- ---- calls
-
-unfoldable pub Answers : Board → Call → Ruled → Type 0
-Answers b (plan p o) a = a ≡ planned b p o
-Answers b (send place) a = a ≡ sent b place
-Answers b (clock c) a = a ≡ clocked b c
-Answers b retire a = a ≡ retired b
 
 pub record Agreed (R : Ruling → Book → Type 0) (a : Ruled) : Type 0 where
   -- every outcome has the board's ruling, and its book is beside the board after the call

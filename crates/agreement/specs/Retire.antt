@@ -1,5 +1,5 @@
 -- Retire on a sound board, in terms of timetables: when the oldest job may leave, when it must stay, and what it leaves behind.
---   Held x ls        the use x is in one of the lines ls;  HeldIn x us: in the line us
+--   Held x ls        the use x is in one of the lines ls
 --   UseOf b m x      x is a use, on the board b, of the oldest job, whose points are 1 to m
 --   Over b m u       in the timetable u that job's last point, and the end of each of its uses, is at most the clock
 --   Outlasts b m u   its last point, or the end of one of its uses, is after the clock: one that ends after H too
@@ -27,15 +27,11 @@ use Rattle.board.specs.declared.Ruled.{Ruled}
 use Rattle.board.specs.Boards.{stateOf}
 use Rattle.board.specs.Calls.{refusal}
 use Rattle.agreement.specs.Abstract.{livePoints}
-use Rattle.agreement.specs.Timetables.{Timetable, Minimal}
-
-abbrev pub HeldIn : Use → List Use → Type 0
-HeldIn x [] = ⊥
-HeldIn x (u ∷ us) = (x ≡ u) ⊎ HeldIn x us
+use Rattle.agreement.specs.Timetables.{Timetable, Minimal, In}
 
 abbrev pub Held : Use → List (List Use) → Type 0
 Held x [] = ⊥
-Held x (us ∷ ls) = HeldIn x us ⊎ Held x ls
+Held x (us ∷ ls) = In x us ⊎ Held x ls
 
 pub record UseOf (b : Board) (m : ℕ) (x : Use) : Type 0 where
   pub held : Held x (stateOf b .lines)

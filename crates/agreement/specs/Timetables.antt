@@ -1,12 +1,11 @@
--- What demand 2 says of a board, in terms of timetables alone. Y is a set of timetables: those meant.
+-- What demand 2 says of a board, in terms of timetables alone. Y is a set of timetables: those meant (`LeastTime Y`,
+-- `GreatestTime Y` and `LargestGap Y` are rulebook's).
 --   Timetable b u       the timetable u keeps to the board b: the origin at 0, and every cell of two live points kept
 --   Some Y              there is one of Y
---   LargestGap Y i j d  d is the largest time of j minus time of i over Y: attained, and never passed
---   LeastTime Y x v     v is the least time of x over Y: attained, and never below;  GreatestTime Y x v: the greatest, never above
 --   Minimal Y b         the board's table is the gap table of Y: it allows exactly Y, each cell less the bias is the largest gap, each
 --                       earliest time the least, and the earliest times together are one of Y
 --   Decided b n Y a     a call with the answer a is accepted exactly when Y is not empty, and else refused with the number n
---   In x xs             x is one of the points xs;  AtLeast b xs u: each of them is at its least time over the board's timetables
+--   In x xs             x is one of the list xs;  AtLeast b xs u: each of the points xs is at its least time over the board's timetables
 --   SetLeast b xs a     a call with the answer a sets each of the points xs to its least time over the board's timetables
 --   Tells b x r         the row r of a report is that of point x: it names the point, and its least and greatest time over the board's timetables
 use mathlib.Core.Path.{_≡_}
@@ -14,12 +13,12 @@ use mathlib.Core.Logic.{_↔_, _⊎_}
 use mathlib.Core.List.{List, [], _∷_}
 use Prim.Native.Nat.{ℕ, suc, _+_, _<_}
 use lib.ListN.{getD, take}
-use lib.IntN.{ℤ, pos, subℕ, _+ℤ_}
-use lib.Signed.{_≤ℤ_}
+use lib.IntN.{pos, subℕ}
 use Rattle.rulings.specs.declared.Ruling.the-variants.{Accepted}
 use Rattle.plain.specs.Plain.{total}
 use Rattle.plain.specs.Rules.{Times}
 use Rattle.lines.specs.Held.{noJob}
+use Rattle.rulebook.specs.Book.{LeastTime, GreatestTime, LargestGap}
 use Rattle.stn.specs.Table.{bias, Fits, earliest, soonest}
 use Rattle.gaps.specs.Cells.{cell, tableOf}
 use Rattle.boardwords.specs.declared.Board.{Board}
@@ -35,18 +34,6 @@ Timetable b u = (u 0 ≡ pos 0) × Fits (livePoints b) (tableOf (b .gaps)) u
 abbrev pub Some : (Times → Type 0) → Type 0
 Some Y = (u : Times) × Y u
 
-pub record LargestGap (Y : Times → Type 0) (i j : ℕ) (d : ℤ) : Type 0 where
-  pub attained : (u : Times) × Y u × (u j ≡ u i +ℤ d)
-  pub most : (u : Times) → Y u → u j ≤ℤ (u i +ℤ d)
-
-pub record LeastTime (Y : Times → Type 0) (x v : ℕ) : Type 0 where
-  pub attained : (u : Times) × Y u × (u x ≡ pos v)
-  pub least : (u : Times) → Y u → pos v ≤ℤ u x
-
-pub record GreatestTime (Y : Times → Type 0) (x v : ℕ) : Type 0 where
-  pub attained : (u : Times) × Y u × (u x ≡ pos v)
-  pub most : (u : Times) → Y u → u x ≤ℤ pos v
-
 pub record Minimal (Y : Times → Type 0) (b : Board) : Type 0 where
   pub same : (u : Times) → Timetable b u ↔ Y u
   -- a cell holds its gap plus the bias
@@ -61,7 +48,7 @@ pub record Decided (b : Board) (n : ℕ) (Y : Times → Type 0) (a : Ruled) : Ty
   -- the board after an accepted call
   pub table : a .ruling ≡ Accepted → Minimal Y (a .board)
 
-abbrev pub In : ℕ → List ℕ → Type 0
+abbrev pub In : {A : Type 0} → A → List A → Type 0
 In x [] = ⊥
 In x (y ∷ ys) = (x ≡ y) ⊎ In x ys
 

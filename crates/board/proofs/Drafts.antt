@@ -66,7 +66,7 @@ order-usable n a b p q =
 
 put-fits : (n x k : ℕ) (p : Put) → x + k ≤ n → SizedPut k p → Fits n (usedFrom x p)
 unfolding usedFrom
-put-fits n x k p le s = record { point = omega (arith, s .step); offset = s .offset; length = s .length }
+put-fits n x k p le s = record { point = omega (arith, s .step); offset = s .readable .offset; length = s .readable .length }
 
 -- ---- rules (b), (c) and (e)
 

@@ -140,9 +140,8 @@ module _ (o : Offer) (s : SizedOffer o) (steps : Steps) (puts : Puts) (es : step
       (record {
         count = s .count;
         each = λ k h.
-            let p = all-at (SizedPut (length (o .steps))) (o .puts) noPut (s .puts) k h in
             rw (padded-at 32 noPut (o .puts) k (omega (arith, s .count)))
-            (record { resource = p .resource; step = omega (arith, p .step, s .few); offset = p .offset; length = p .length });
+            (all-at (SizedPut (length (o .steps))) (o .puts) noPut (s .puts) k h .readable);
       })
 
 -- ---- before the offer is read

@@ -17,12 +17,13 @@ use Rattle.rulings.specs.Answer.{refuse, plain}
 use Rattle.plain.specs.declared.Job.{Job}
 use Rattle.plain.specs.declared.Rule.{Rule}
 use Rattle.plain.specs.Plain
+use Rattle.plain.specs.Sent.{NoneSent, SentFirst}
 use Rattle.plain.specs.Rules.{RuleOn}
 use Rattle.stn.specs.Table.{Table, addAll, earliest}
 use Rattle.rulebook.specs.Book.{Book, Point, Step, send, clock}
 use Rattle.demands.specs.Model.{Board, Answer, board, refusal, settled, sendPoints, clocking, step}
 use Rattle.demands.specs.Beside.{Holds, Sim}
-use Rattle.demands.specs.Sent.{AllSent, NoneSent, SentFirst, newest}
+use Rattle.demands.specs.Sent.{AllSent, newest}
 use Rattle.demands.proofs.Send.{send-added, send-some}
 use Rattle.demands.proofs.Step.{sim-keeps}
 
@@ -46,27 +47,27 @@ marked-newest (j ∷ []) = (tt, tt)
 marked-newest (j ∷ i ∷ js) = (tt, marked-newest (i ∷ js))
 
 none-newest : (j : Job) (js : List Job) → NoneSent (j ∷ js) → T (Plain.unsentAt (newest (j ∷ js)) (j ∷ js))
-unfolding NoneSent newest Plain.unsentAt
-none-newest j [] a = a .0
+unfolding newest Plain.unsentAt
+none-newest j [] a = rw (a .0) tt
 none-newest j (i ∷ js) a = none-newest i js (a .1)
 
 -- all are sent, or the newest is not
 unsent-newest : (js : List Job) → SentFirst js → AllSent js ⊎ T (Plain.unsentAt (newest js) js)
-unfolding SentFirst AllSent newest Plain.unsentAt NoneSent
+unfolding AllSent newest Plain.unsentAt
 unsent-newest [] o = inl tt
 unsent-newest (j ∷ []) o = go (j .sent)
   where
     go : (b : Bool) → (T b × Unit {0}) ⊎ T (not b)
     go true = inl (tt, tt)
     go false = inr tt
-unsent-newest (j ∷ i ∷ js) o = go (j .sent) (o .0) (unsent-newest (i ∷ js) (o .1))
+unsent-newest (j ∷ i ∷ js) o = go (j .sent) refl (unsent-newest (i ∷ js) (o .1))
   where
     go :
-        (b : Bool) → (T (not b) → NoneSent (i ∷ js)) → AllSent (i ∷ js) ⊎ T (Plain.unsentAt (newest (i ∷ js)) (i ∷ js))
+        (b : Bool) → j .sent ≡ b → AllSent (i ∷ js) ⊎ T (Plain.unsentAt (newest (i ∷ js)) (i ∷ js))
         → (T b × AllSent (i ∷ js)) ⊎ T (Plain.unsentAt (newest (i ∷ js)) (i ∷ js))
-    go true n (inl a) = inl (tt, a)
-    go true n (inr t) = inr t
-    go false n q = inr (none-newest i js (n tt))
+    go true e (inl a) = inl (tt, a)
+    go true e (inr t) = inr t
+    go false e q = inr (none-newest i js (o .0 e))
 
 -- ---- the calls
 

@@ -30,42 +30,44 @@ module _ {s : Plain.State} {c : Table} {rs : List (RuleOn Point)} (h : Holds s c
       soonest-least (Plain.liveCount s) c (h .closed) (live-positive s) u (f .0) (f .1) x hx
 
   pub least-at : (x : ℕ) → x < Plain.liveCount s → Least (book s rs) x (earliest c x)
-  unfolding Least soonest
-  least-at x hx = (
-    (soonest c, soonest-possible h, refl),
-    λ u p. of-below (pos (earliest c x)) (u x) (omega (arith, soonest-first u p x hx)),
-  )
+  unfolding soonest
+  least-at x hx =
+      record {
+        attained = (soonest c, soonest-possible h, refl);
+        least = λ u p. of-below (pos (earliest c x)) (u x) (omega (arith, soonest-first u p x hx));
+      }
 
   pub least-is : (x v : ℕ) → x < Plain.liveCount s → Least (book s rs) x v → v ≡ earliest c x
-  unfolding Least soonest
+  unfolding soonest
   least-is x v hx l =
+      let t = l .attained in
       omega (
         arith,
-        soonest-first (l .0 .0) (l .0 .1) x hx,
-        ap up (l .0 .2),
-        ap dn (l .0 .2),
-        below-of (pos v) (pos (earliest c x)) (l .1 (soonest c) (soonest-possible h)),
+        soonest-first (t .0) (t .1) x hx,
+        ap up (t .2),
+        ap dn (t .2),
+        below-of (pos v) (pos (earliest c x)) (l .least (soonest c) (soonest-possible h)),
       )
 
   pub greatest-at : (x : ℕ) → x < Plain.liveCount s → Greatest (book s rs) x (latest c x)
-  unfolding Greatest
-  greatest-at x hx = (
-    (far c 0, far-possible 0 (live-positive s), latest-far (Plain.liveCount s) c (h .closed) x hx),
-    λ u p.
-        let f = h .same u .1 p in
-        of-below (u x) (pos (latest c x)) (omega (arith, latest-most (Plain.liveCount s) c (h .closed) u (f .0) (f .1) x hx)),
-  )
+  greatest-at x hx =
+      record {
+        attained = (far c 0, far-possible 0 (live-positive s), latest-far (Plain.liveCount s) c (h .closed) x hx);
+        most = λ u p.
+            let f = h .same u .1 p in
+            of-below (u x) (pos (latest c x)) (omega (arith, latest-most (Plain.liveCount s) c (h .closed) u (f .0) (f .1) x hx));
+      }
 
   -- Attained by the timetable `far c i`; and no timetable of the table passes its cell
   pub gap-is : (i j : ℕ) → i < Plain.liveCount s → j < Plain.liveCount s → Gap (book s rs) i j (subℕ (c i j) bias)
-  unfolding Gap far
-  gap-is i j hi hj = ((far c i, far-possible i hi, attained), most)
+  unfolding far
+  gap-is i j hi hj = record { attained = (far c i, far-possible i hi, reached); most = never-passed }
     where
       d : ℤ
       d = subℕ (c i j) bias
 
-      attained : far c i j ≡ far c i i +ℤ d
-      attained =
+      reached : far c i j ≡ far c i i +ℤ d
+      reached =
           whole-eq (far c i j) (far c i i +ℤ d)
           (omega (
             arith,
@@ -76,8 +78,8 @@ module _ {s : Plain.State} {c : Table} {rs : List (RuleOn Point)} (h : Holds s c
             h .closed .diagonal i hi,
           ))
 
-      most : (u : Times) → Possible (book s rs) u → u j ≤ℤ (u i +ℤ d)
-      most u p = of-below (u j) (u i +ℤ d) (omega (arith, fits-to (h .same u .1 p .1) i j hi hj, sub-spec (c i j) bias, sum-spec (u i) d))
+      never-passed : (u : Times) → Possible (book s rs) u → u j ≤ℤ (u i +ℤ d)
+      never-passed u p = of-below (u j) (u i +ℤ d) (omega (arith, fits-to (h .same u .1 p .1) i j hi hj, sub-spec (c i j) bias, sum-spec (u i) d))
 
 module _ {bd : Board} {bk : Book} (m : Sim bd bk) where
   pub sim-least : (x : ℕ) → x < Plain.liveCount (bd .state) → Least bk x (earliest (bd .table) x)

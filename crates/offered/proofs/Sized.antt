@@ -45,7 +45,12 @@ module _ (p o : List ℕ) (ok : plantRuling p ≡ Accepted) (read : offerRuling 
   unfolding putOf
   put-sized k j h l =
       let r = allocation-range p (recordOf p o k) j (in-range k h) l in
-      record { resource = omega (arith, r .resource); step = h; offset = r .offset; some = r .some; length = r .most }
+      let few = read-of p o read .few in
+      record {
+        readable = record { resource = omega (arith, r .resource); step = omega arith; offset = r .offset; length = r .most };
+        step = h;
+        some = r .some;
+      }
 
   step-puts-sized : (k : ℕ) → k < stepCount o → (n j : ℕ) → j + n ≤ allocationCount p (recordOf p o k) → All (SizedPut (stepCount o)) (putsOfStep p o k j n)
   unfolding putsOfStep

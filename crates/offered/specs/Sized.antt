@@ -7,18 +7,17 @@ use Rattle.plain.specs.declared.Step.{Step}
 use Rattle.plain.specs.declared.Put.{Put}
 use Rattle.plain.specs.Plain.{Offer}
 use Rattle.lists.specs.All.{All}
+use Rattle.lines.specs.Asked.{Readable}
 
 pub record SizedStep (s : Step) : Type 0 where
   pub shortest : s .shortest ≤ 1000000
   pub longest : s .longest ≤ 1000000
 
--- an allocation of one of the first n steps
+-- an allocation of one of the first n steps: what the code asks of it, and that it has a length
 pub record SizedPut (n : ℕ) (p : Put) : Type 0 where
-  pub resource : p .resource < 16
+  pub readable : Readable p
   pub step : p .step < n
-  pub offset : p .offset ≤ 1000000
   pub some : 1 ≤ p .length
-  pub length : p .length ≤ 1000000
 
 pub record SizedOffer (o : Offer) : Type 0 where
   pub some : 1 ≤ length (o .steps)

@@ -5,6 +5,8 @@
 --   Book               the plain machine's state, and every rule made so far
 --   Possible b u       the timetable u over the live points is possible, completed (`joined`) by numbers for the retired ones
 --   SomePossible b             some timetable is possible
+--   LeastTime Y x v    v is the least time of x over the timetables Y: attained, and never below;  GreatestTime: the greatest, never above
+--   LargestGap Y i j d d is the largest time of j minus time of i over the timetables Y: attained, and never passed
 --   Least, Greatest    the least and the greatest value of a point over the possible timetables
 --   Gap b i j d        d is the largest time of j minus time of i over the possible timetables: entry (i, j) of the gap table
 --   Always b rs        every possible timetable keeps these rules
@@ -68,16 +70,31 @@ Possible b u = (u 0 ≡ pos 0) × ((g : ℕ → ℤ) × AllKept (joined u g) (b 
 unfoldable pub SomePossible : Book → Type 0
 SomePossible b = (u : Times) × Possible b u
 
--- the least and the greatest value of a point; by rule (a) neither is below 0
-unfoldable pub Least : Book → ℕ → ℕ → Type 0
-Least b x v = ((u : Times) × Possible b u × (u x ≡ pos v)) × ((u : Times) → Possible b u → pos v ≤ℤ u x)
+-- ---- least and greatest values, over a set Y of timetables
 
-unfoldable pub Greatest : Book → ℕ → ℕ → Type 0
-Greatest b x v = ((u : Times) × Possible b u × (u x ≡ pos v)) × ((u : Times) → Possible b u → u x ≤ℤ pos v)
+pub record LeastTime (Y : Times → Type 0) (x v : ℕ) : Type 0 where
+  pub attained : (u : Times) × Y u × (u x ≡ pos v)
+  pub least : (u : Times) → Y u → pos v ≤ℤ u x
+
+pub record GreatestTime (Y : Times → Type 0) (x v : ℕ) : Type 0 where
+  pub attained : (u : Times) × Y u × (u x ≡ pos v)
+  pub most : (u : Times) → Y u → u x ≤ℤ pos v
+
+-- the largest time of j minus time of i
+pub record LargestGap (Y : Times → Type 0) (i j : ℕ) (d : ℤ) : Type 0 where
+  pub attained : (u : Times) × Y u × (u j ≡ u i +ℤ d)
+  pub most : (u : Times) → Y u → u j ≤ℤ (u i +ℤ d)
+
+-- the least and the greatest value of a point; by rule (a) neither is below 0
+abbrev pub Least : Book → ℕ → ℕ → Type 0
+Least b x v = LeastTime (Possible b) x v
+
+abbrev pub Greatest : Book → ℕ → ℕ → Type 0
+Greatest b x v = GreatestTime (Possible b) x v
 
 -- "Entry (i, j) of the gap table is the largest time of j minus time of i over the possible timetables."
-unfoldable pub Gap : Book → ℕ → ℕ → ℤ → Type 0
-Gap b i j d = ((u : Times) × Possible b u × (u j ≡ u i +ℤ d)) × ((u : Times) → Possible b u → u j ≤ℤ (u i +ℤ d))
+abbrev pub Gap : Book → ℕ → ℕ → ℤ → Type 0
+Gap b i j d = LargestGap (Possible b) i j d
 
 -- in every possible timetable these rules are kept
 unfoldable pub Always : Book → List Rule → Type 0

@@ -24,7 +24,7 @@ use Rattle.sound.proofs.ByValue.{board-of-sound, sound-by-words}
 use Rattle.board.specs.declared.Ruled.{Ruled}
 use Rattle.board.specs.Calls.{refused, refusal, after, heard, planned, sent, clocked, retired}
 use Rattle.board.specs.InWords.{wordsAfter}
-use Rattle.agreement.specs.Abstract.{Answers}
+use Rattle.agreement.specs.Runs.{answer}
 use Rattle.agreement.proofs.Refused.{refused-same}
 use Rattle.values.proofs.GivenBack.{GivenBack, plan-back, send-back, clock-back, retire-back}
 
@@ -34,19 +34,19 @@ abbrev pub Keeps : (Board → Ruled) → Type 0
 Keeps f = (b : Board) (c : Cause) → f b .ruling ≡ Refused c → f b .board ≡ b
 
 plan-keeps : (p o : List ℕ) → Keeps (λ b. planned b p o)
-unfolding Answers
+unfolding answer
 plan-keeps p o b c = refused-same b c (plan p o) (planned b p o) refl
 
 send-keeps : (place : ℕ) → Keeps (λ b. sent b place)
-unfolding Answers
+unfolding answer
 send-keeps place b c = refused-same b c (send place) (sent b place) refl
 
 clock-keeps : (time : ℕ) → Keeps (λ b. clocked b time)
-unfolding Answers
+unfolding answer
 clock-keeps time b c = refused-same b c (clock time) (clocked b time) refl
 
 retire-keeps : Keeps retired
-unfolding Answers
+unfolding answer
 retire-keeps b c = refused-same b c retire (retired b) refl
 
 -- ---- boards that are not sound

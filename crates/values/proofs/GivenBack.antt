@@ -34,7 +34,8 @@ use Rattle.board.specs.Boards.{stateOf, boardOf, badSettings, zeroCells, freshC
 use Rattle.board.specs.Calls.{refused, refusal, accepted, settled, after, decided, heard, planned, sent, clocked, left, retired}
 use Rattle.board.specs.InWords.{wordsAfter}
 use Rattle.board.proofs.FreshSound.{fresh-sound}
-use Rattle.agreement.specs.Abstract.{Shaped, Answers}
+use Rattle.agreement.specs.Abstract.{Shaped}
+use Rattle.agreement.specs.Runs.{answer}
 use Rattle.agreement.proofs.Agreement.{call-sound}
 use Rattle.boardwords.specs.Words.{boardIn, wordIn, jobAt, lineAt, cellAt}
 use Rattle.boardwords.specs.Codec.{wordsOf, Writable}
@@ -167,7 +168,7 @@ module _ (w : List ℕ) where
       }
 
   call-writable :
-      (call : Call) (r : Ruled) → Answers (boardIn w) call r → sound (boardIn w) ≡ true → Made r → r .ruling ≡ Accepted → Writable (r .board)
+      (call : Call) (r : Ruled) → r ≡ answer (boardIn w) call → sound (boardIn w) ≡ true → Made r → r .ruling ≡ Accepted → Writable (r .board)
   call-writable call r is passes made e =
       let q = call-sound (boardIn w) shaped (sound-to (boardIn w) (shaped .lines) passes) call r is in
       let m = made e in
@@ -178,25 +179,25 @@ module _ (w : List ℕ) where
   back r holds e = ap (λ (x : Ruling). boardIn (ifAccepted x (wordsOf (r .board)) w)) e ∙ board-back (r .board) (holds e)
 
   pub plan-back : (p o : List ℕ) → GivenBack w (planned (boardIn w) p o)
-  unfolding Answers
+  unfolding answer
   plan-back p o =
       let b = boardIn w in
       back (planned b p o) (λ e. call-writable (plan p o) (planned b p o) refl (planned-sound b p o e) (made-planned b p o) e)
 
   pub send-back : (place : ℕ) → GivenBack w (sent (boardIn w) place)
-  unfolding Answers sent
+  unfolding answer sent
   send-back place =
       let b = boardIn w in
       back (sent b place) (λ e. call-writable (send place) (sent b place) refl (sound-first b _ e) (made-sent b place) e)
 
   pub clock-back : (c : ℕ) → GivenBack w (clocked (boardIn w) c)
-  unfolding Answers clocked
+  unfolding answer clocked
   clock-back c =
       let b = boardIn w in
       back (clocked b c) (λ e. call-writable (clock c) (clocked b c) refl (sound-first b _ e) (made-clocked b c) e)
 
   pub retire-back : GivenBack w (retired (boardIn w))
-  unfolding Answers retired
+  unfolding answer retired
   retire-back =
       let b = boardIn w in back (retired b) (λ e. call-writable retire (retired b) refl (sound-first b _ e) (made-retired b) e)
 
@@ -204,9 +205,9 @@ module _ (w : List ℕ) where
   unfolding freshRuled
   fresh-back s = back (freshRuled s) (go (badSettings s) refl)
     where
-      answer : Bool → Ruled
-      answer t = cond t (record { ruling = refuse 5; board = zeroBoard }) (record { ruling = Accepted; board = freshBoard s })
+      ruled : Bool → Ruled
+      ruled t = cond t (record { ruling = refuse 5; board = zeroBoard }) (record { ruling = Accepted; board = freshBoard s })
 
-      go : (t : Bool) → badSettings s ≡ t → answer t .ruling ≡ Accepted → Writable (answer t .board)
+      go : (t : Bool) → badSettings s ≡ t → ruled t .ruling ≡ Accepted → Writable (ruled t .board)
       go true q e = absurd (refused-no (plain 5) e)
       go false q e = fresh-writable s q
