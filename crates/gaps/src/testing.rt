@@ -43,7 +43,7 @@ fn are_clear(t: &[u32], from: usize, count: usize) -> bool
 }
 
 // All cells from `from` on are 0. On a board of few jobs these are nearly all cells, and reading them is most of a call's time: 256 at a time,
-// a fixed number that the compiler lays out without a loop, are read a third faster than one by one.
+// a fixed number that the compiler lays out without a loop, take a sixth less time than a row at a time.
 fn is_rest_clear(t: &[u32], from: usize) -> bool
     requires { ⌜ (length (now t) ≡ 4225) × (from ≤ 4225) ⌝ }
     ensures { λ r. ⌜ r ≡ clear (now (t .entry)) from (4225 - from) ⌝ }
