@@ -5,8 +5,8 @@ use boardwords::Board;
 use gaps::BIAS;
 use lines::Jobs;
 use lines::Line;
-use plain::Job;
-use plain::Use;
+use lines::no_job;
+use lines::no_use;
 use rulings::Cause;
 use rulings::Ruling;
 ghost use mathlib.Core.Path.{_≡_};
@@ -18,11 +18,7 @@ ghost use Rattle.board.specs.Boards.{badSettings, freshCells, zeroBoard,
 fn no_jobs() -> Jobs
     ensures { λ r. ⌜ r ≡ jobsFrom [] ⌝ }
 {
-    let none = Job {
-        points: 0,
-        batch: 0,
-        sent: false,
-    };
+    let none = no_job();
     Jobs {
         count: 0,
         jobs: [none; 16],
@@ -32,11 +28,7 @@ fn no_jobs() -> Jobs
 fn empty_line() -> Line
     ensures { λ r. ⌜ r ≡ lineFrom [] ⌝ }
 {
-    let none = Use {
-        point: 0,
-        offset: 0,
-        length: 0,
-    };
+    let none = no_use();
     Line {
         count: 0,
         uses: [none; 32],

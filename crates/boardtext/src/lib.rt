@@ -1,6 +1,8 @@
 // What a log shows of a board: its gap table, and all else. Any number may stand in a board, so that each count is taken as no more than
-// there are places for. It may use text, and the structs of the board (plain, lines, boardwords).
+// there are places for. It may use text, the structs of the board (plain, lines, boardwords) and the
+// bias of its cells (gaps).
 use boardwords::Board;
+use gaps::BIAS;
 use lines::Jobs;
 use lines::Line;
 use plain::Job;
@@ -11,8 +13,6 @@ use text::put_number;
 ghost use mathlib.Core.Path.{_≡_};
 ghost use Prim.Native.Nat.{_≤_, _<_};
 ghost use lib.ListN.{length};
-
-const BIAS: u32 = 100_000_000;
 
 // Puts a blank and the number.
 pub fn put_next(out: &mut [u8], at: usize, n: u32) -> usize {

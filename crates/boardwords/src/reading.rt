@@ -2,6 +2,8 @@
 use crate::Board;
 use lines::Jobs;
 use lines::Line;
+use lines::no_job;
+use lines::no_use;
 use plain::Job;
 use plain::Use;
 ghost use mathlib.Core.Path.{_≡_};
@@ -106,27 +108,7 @@ fn cells(s: &[u32]) -> [u32; 4225]
     next
 }
 
-// ---- places with 0 everywhere
-
-fn no_job() -> Job
-    ensures { λ r. ⌜ r ≡ jobFrom zeros 0 ⌝ }
-{
-    Job {
-        points: 0,
-        batch: 0,
-        sent: false,
-    }
-}
-
-fn no_use() -> Use
-    ensures { λ r. ⌜ r ≡ useFrom zeros 0 ⌝ }
-{
-    Use {
-        point: 0,
-        offset: 0,
-        length: 0,
-    }
-}
+// ---- a line with 0 everywhere
 
 fn no_line() -> Line
     ensures { λ r. ⌜ r ≡ lineFrom zeros 0 ⌝ }

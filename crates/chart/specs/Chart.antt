@@ -19,6 +19,7 @@ use lib.Dec.{leb, ltb}
 use lib.ListN.{getD}
 use Rattle.plain.specs.declared.Job.{Job}
 use Rattle.plain.specs.declared.Use.{Use}
+use Rattle.plain.specs.Plain
 use Rattle.plain.specs.Plain.{noUse}
 use Rattle.lines.specs.declared.Line.{Line}
 use Rattle.lines.specs.Held.{lineOf, noLine}
@@ -37,7 +38,7 @@ abbrev pub startOf : Table → Use → ℕ
 startOf c u = earliest c (u .point) + u .offset
 
 abbrev pub endOf : Table → Use → ℕ
-endOf c u = startOf c u + u .length
+endOf c u = earliest c (u .point) + Plain.endOf u
 
 abbrev pub covers : Table → ℕ → ℕ → Use → Bool
 covers c p q u = ltb (startOf c u) q && ltb p (endOf c u)

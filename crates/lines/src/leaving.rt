@@ -31,7 +31,7 @@ fn over(f: u32, m: u32, x: u32) -> u32
 
 // ---- uses
 
-fn no_use() -> Use
+pub fn no_use() -> Use
     ensures { λ r. ⌜ r ≡ noUse ⌝ }
 {
     Use {

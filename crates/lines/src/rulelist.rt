@@ -5,7 +5,7 @@ ghost use mathlib.Core.Bool.{cond};
 ghost use Prim.Native.Nat.{ℕ, _≤_};
 ghost use lib.Dec.{eqb};
 ghost use lib.ListN.{getD};
-ghost use Rattle.plain.specs.Plain.{notBefore, inOrder, durations, afterNewest, batchRules, starts};
+ghost use Rattle.plain.specs.Plain.{endOf, notBefore, inOrder, durations, afterNewest, batchRules, starts};
 ghost use Rattle.lines.specs.Held.{jobsOf, stepsOf, rulesOf, rulesFrom, maybeFrom, noRule, endRule};
 ghost use Rattle.lines.specs.Asked.{Sized, Short, Room};
 use crate::Jobs;
@@ -23,15 +23,11 @@ pub struct Rules {
 pub fn no_rules() -> Rules
     ensures { λ r. ⌜ r ≡ rulesFrom [] ⌝ }
 {
-    let none = Rule {
-        early: 0,
-        more: 0,
-        late: 0,
-        slack: 0,
-    };
+    let none = no_rule();
+    let zero = none.rule;
     Rules {
         count: 0,
-        rules: [none; 82],
+        rules: [zero; 82],
     }
 }
 
@@ -87,6 +83,14 @@ pub fn not_before(x: u32, time: u32) -> Rule
     }
 }
 
+// How long after its point a use ends.
+pub fn end_of(u: Use) -> u32
+    requires { ⌜ Short u ⌝ }
+    ensures { λ r. ⌜ r ≡ endOf u ⌝ }
+{
+    u.offset + u.length
+}
+
 // The use a ends no later than the use b starts.
 pub fn in_order(a: Use, b: Use) -> Rule
     requires { ⌜ Short a ⌝ }
@@ -94,7 +98,7 @@ pub fn in_order(a: Use, b: Use) -> Rule
 {
     Rule {
         early: a.point,
-        more: a.offset + a.length,
+        more: end_of(a),
         late: b.point,
         slack: b.offset,
     }

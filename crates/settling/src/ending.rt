@@ -2,6 +2,7 @@
 // rules that say so are not collected: each is looked up in the table where it would be made.
 use boardwords::read_use;
 use gaps::BIAS;
+use lines::end_of;
 use lines::goes;
 use plain::Use;
 ghost use mathlib.Core.Path.{_≡_};
@@ -25,7 +26,7 @@ fn use_ends(t: &[u32], clock: u32, f: u32, m: u32, u: Use) -> bool
         return true;
     }
     let at = u.point as usize;
-    t[at] + (u.offset + u.length) <= BIAS + clock
+    t[at] + end_of(u) <= BIAS + clock
 }
 
 // Each use of the line at word `at`.

@@ -1,16 +1,21 @@
 -- `in_order` meets its contract: the fields are those of the plain machine's rule, and the end of a short use fits.
-use mathlib.Core.Path.{refl}
+use Prim.Native.Nat.{ℕ}
+use mathlib.Core.Path.{ap}
 use borrow.Author.Needs.{needs}
+use Rattle.plain.specs.declared.Rule.{Rule}
 use Rattle.plain.specs.Plain.{inOrder}
 use Rattle.lines.proofs.rulelist.in_order.Statement.{statement}
 use Rattle.lines.proofs.rulelist.in_order.Tie as tie
 
-add-t3 : tie.Need-add-t3
-add-t3 c = search needs
+end-of-requires : tie.Need-end-of-requires
+end-of-requires c κs = search needs
 
 returns : tie.Need-returns
 unfolding inOrder
-returns c = refl
+returns c =
+    let A = c .before .args in
+    let made : ℕ → Rule = λ n. record { early = A .a .point; more = n; late = A .b .point; slack = A .b .offset } in
+    ap made (c .end-of .ensures)
 
 pub in-order-spec : {M : Type 1} → statement M
-in-order-spec = tie.close (tie.spec add-t3 returns)
+in-order-spec = tie.close (tie.spec end-of-requires returns)

@@ -1,9 +1,13 @@
 -- `use_ends` meets its contract. A use of a point that leaves has its rule looked up in the origin's row.
-use mathlib.Core.Path.{sym, _∙_}
+use Prim.Native.Nat.{ℕ, _+_}
+use mathlib.Core.Path.{sym, _∙_, ap}
 use native.Mathlib.Omega.{arith}
+use lib.Dec.{leb}
+use lib.ListN.{getD}
 use borrow.Author.Tests.{not-true, not-false}
 use borrow.Author.Needs.{needs}
 use Rattle.lines.proofs.LeavingLaws.{goes-below}
+use Rattle.stn.specs.Table.{bias}
 use Rattle.settling.proofs.Ended.{ends-stays, ends-goes}
 use Rattle.gaps.proofs.Overlaid.{origin-row}
 use Rattle.settling.proofs.ending.use_ends.Statement.{statement}
@@ -26,19 +30,22 @@ shared-slice-read-result c = let A = c .before .before .before .before .before .
     let leaves = goes-below (A .f) (A .m) (A .u .point) (sym (c .before .before .before .goes .ensures) ∙ not-false _ (c .before .before .if1 .left)) in
     omega (arith, leaves)
 
+end-of-requires : tie.Need-end-of-requires
+end-of-requires c κs = search needs
+
 add-result : tie.Need-add-result
-add-result c = search needs
+add-result c = let A = c .before .before .before .before .before .before .args in
+    let p = c .before .before .before .before .before .before .pre in
+    let leaves = goes-below (A .f) (A .m) (A .u .point) (sym (c .before .before .before .before .goes .ensures) ∙ not-false _ (c .before .before .before .if1 .left)) in
+    omega (arith, origin-row (A .t .now) (A .u .point), p .0 .bounded (A .u .point) leaves, c .end-of .ensures, p .1 .offset, p .1 .length)
 
 add-result-2 : tie.Need-add-result-2
-add-result-2 c = let A = c .before .before .before .before .before .before .args in
-    let leaves = goes-below (A .f) (A .m) (A .u .point) (sym (c .before .before .before .before .goes .ensures) ∙ not-false _ (c .before .before .before .if1 .left)) in
-    omega (arith, origin-row (A .t .now) (A .u .point), c .before .before .before .before .before .before .pre .0 .bounded (A .u .point) leaves)
-
-add-result-3 : tie.Need-add-result-3
-add-result-3 c = search needs
+add-result-2 c = search needs
 
 returns-2 : tie.Need-returns-2
-returns-2 c = let A = c .before .before .before .before .before .before .args in ends-goes (A .t .now) (A .clock) (A .f) (A .m) (A .u) (sym (c .before .before .before .before .goes .ensures) ∙ not-false _ (c .before .before .before .if1 .left))
+returns-2 c = let A = c .before .before .before .before .before .before .args in
+    ap (λ (n : ℕ). leb (getD (A .t .now) (A .u .point) 0 + n) (bias + A .clock)) (c .end-of .ensures)
+    ∙ ends-goes (A .t .now) (A .clock) (A .f) (A .m) (A .u) (sym (c .before .before .before .before .goes .ensures) ∙ not-false _ (c .before .before .before .if1 .left))
 
 pub use-ends-spec : {M : Type 1} → statement M
 use-ends-spec =
@@ -49,7 +56,7 @@ use-ends-spec =
     cast-at
     mul-result
     shared-slice-read-result
+    end-of-requires
     add-result
     add-result-2
-    add-result-3
     returns-2)
