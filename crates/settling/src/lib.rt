@@ -83,23 +83,8 @@ fn grow_or_put(t: &mut [u32], n: usize, m: usize, most: u32, rules: Rules, old: 
     add_or_put(t, n + m, rules, old)
 }
 
-// The rules added to a table of n points; where one does not agree with those before it, the table stays as it came. Only live rows change, so
-// of few points few rows are kept.
-pub fn try_rules(t: &mut [u32], n: usize, rules: Rules) -> bool
-    requires { ⌜ (length (now t) ≡ 4225) × (n ≤ 65) × Closed n (tableOf (now t)) ⌝ }
-    requires { ⌜ (rules .count ≤ 82) × AllUsable n (rulesOf rules) ⌝ }
-    ensures tried { λ r. ⌜ outcome r (now (t .exit)) ≡ addedAll (rulesOf rules) n (now (t .entry)) ⌝ }
-    ensures kept { λ r. ⌜ (r ≡ false → now (t .exit) ≡ now (t .entry)) ⌝ }
-{
-    if n <= 16 {
-        let few = few_cells(t);
-        return add_or_put(t, n, rules, &few);
-    }
-    let old = cells_of(t);
-    add_or_put(t, n, rules, &old)
-}
-
-// The same with m new points first, each from 0 to `most`.
+// m new points, each from 0 to `most`, and then the rules added to a table of n points; where one does not agree with those before it, the
+// table stays as it came. Only live rows change, so of few points few rows are kept.
 pub fn try_grown(t: &mut [u32], n: usize, m: usize, most: u32, rules: Rules) -> bool
     requires { ⌜ (length (now t) ≡ 4225) × (0 < n) × (n + m ≤ 65) × (most ≤ bias) × Closed n (tableOf (now t)) ⌝ }
     requires { ⌜ (rules .count ≤ 82) × AllUsable (n + m) (rulesOf rules) ⌝ }
@@ -112,4 +97,14 @@ pub fn try_grown(t: &mut [u32], n: usize, m: usize, most: u32, rules: Rules) -> 
     }
     let old = cells_of(t);
     grow_or_put(t, n, m, most, rules, &old)
+}
+
+// The same with no new point.
+pub fn try_rules(t: &mut [u32], n: usize, rules: Rules) -> bool
+    requires { ⌜ (length (now t) ≡ 4225) × (0 < n) × (n ≤ 65) × Closed n (tableOf (now t)) ⌝ }
+    requires { ⌜ (rules .count ≤ 82) × AllUsable n (rulesOf rules) ⌝ }
+    ensures tried { λ r. ⌜ outcome r (now (t .exit)) ≡ addedAll (rulesOf rules) n (now (t .entry)) ⌝ }
+    ensures kept { λ r. ⌜ (r ≡ false → now (t .exit) ≡ now (t .entry)) ⌝ }
+{
+    try_grown(t, n, 0, 0, rules)
 }

@@ -1,69 +1,31 @@
--- `try_rules` meets its contract: the cells that are put back are those that were copied.
-use Prim.Native.Nat.{ℕ, _+_, _*_}
-use mathlib.Core.Path.{_≡_, ap}
-use mathlib.Core.List.{List}
+-- `try_rules` meets its contract: a table that grew by no point is the table.
+use Prim.Native.Nat.{_+_}
+use mathlib.Core.Path.{_≡_, sym, _∙_, ap₂}
 use native.Mathlib.Omega.{arith}
-use lib.ListN.{length, getD}
 use borrow.Author.Needs.{needs}
-use Rattle.gaps.proofs.Copied.{put-back, few-kept}
+use Rattle.lines.specs.Held.{rulesOf}
+use Rattle.gaps.proofs.Grown.{grown-none}
+use Rattle.settling.specs.Settled.{addedAll}
 use Rattle.settling.proofs.try_rules.Statement.{statement}
 use Rattle.settling.proofs.try_rules.Tie as tie
 
-few-cells-requires : tie.Need-few-cells-requires
-few-cells-requires c κs = search needs
-
-slice-aggregate-add-or-put : tie.Need-slice-aggregate-add-or-put
-slice-aggregate-add-or-put c = search needs
-
-add-or-put-requires : tie.Need-add-or-put-requires
-add-or-put-requires c κs =
-    let p = c .before .before .before .before .before .before .pre in
-    let size : length (c .before .before .few-cells .result) ≡ 1040 = search needs in
-    (p .0, (p .1, omega (arith, size)))
+try-grown-requires : tie.Need-try-grown-requires
+try-grown-requires c κs =
+    let A = c .before .before .args in
+    let p = c .before .before .pre in
+    let same : A .n + 0 ≡ A .n = omega arith in
+    ((p .0 .0, p .0 .1, omega (arith, p .0 .2), omega arith, p .0 .3), (p .1 .0, rw same (p .1 .1)))
 
 same-length : tie.Need-same-length
 same-length c = search needs
 
 returns : tie.Need-returns
 returns c =
-    let A = c .before .before .before .before .before .before .before .before .before .args in
-    let kept = c .before .before .before .before .before .few-cells in
-    let tried = c .before .before .add-or-put .ensures in
-    (tried .0, λ e. put-back (A .t .now) (kept .result) _ (A .n * 65) (λ k h. few-kept (A .t .now) (kept .result) 1040 (kept .ensures) k (omega (arith, c .before .before .before .before .before .before .before .if1 .taken))) (tried .1 e))
-
-cells-of-requires : tie.Need-cells-of-requires
-cells-of-requires c κs = search needs
-
-slice-aggregate-add-or-put-2 : tie.Need-slice-aggregate-add-or-put-2
-slice-aggregate-add-or-put-2 c = search needs
-
-add-or-put-requires-2 : tie.Need-add-or-put-requires-2
-add-or-put-requires-2 c κs =
-    let p = c .before .before .before .before .before .before .pre in
-    let size : length (c .before .before .cells-of .result) ≡ 4225 = search needs in
-    (p .0, (p .1, omega (arith, size)))
-
-same-length-2 : tie.Need-same-length-2
-same-length-2 c = search needs
-
-returns-2 : tie.Need-returns-2
-returns-2 c =
-    let A = c .before .before .before .before .before .before .before .before .before .args in
-    let kept = c .before .before .before .before .before .cells-of in
-    let tried = c .before .before .add-or-put2 .ensures in
-    (tried .0, λ e. put-back (A .t .now) (kept .result) _ (A .n * 65) (λ k h. ap (λ (w : List ℕ). getD w k 0) (kept .ensures)) (tried .1 e))
+    let A = c .before .before .before .before .before .args in
+    let p = c .before .before .before .before .before .pre .0 in
+    let tried = c .before .before .try-grown .ensures in
+    let same : A .n + 0 ≡ A .n = omega arith in
+    (tried .0 ∙ ap₂ (addedAll (rulesOf (A .rules))) same (sym (grown-none (A .t .now) (A .n) 0 (p .0) (p .2))), tried .1)
 
 pub try-rules-spec : {M : Type 1} → statement M
-try-rules-spec =
-    tie.close
-    (tie.spec
-    few-cells-requires
-    slice-aggregate-add-or-put
-    add-or-put-requires
-    same-length
-    returns
-    cells-of-requires
-    slice-aggregate-add-or-put-2
-    add-or-put-requires-2
-    same-length-2
-    returns-2)
+try-rules-spec = tie.close (tie.spec try-grown-requires same-length returns)

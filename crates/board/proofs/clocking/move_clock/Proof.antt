@@ -33,7 +33,7 @@ live-count-requires c κs = jobs-sized (c .before .before .before .before .args 
 try-rules-requires : tie.Need-try-rules-requires
 try-rules-requires c κs = let n = c .live-count .ensures in
     let r = start-words (c .before .before .before .before .before .args .w .now) (c .before .before .before .before .before .pre .0) (c .before .before .before .before .before .pre .1 .0) _ (c .before .before .before .before .before .pre .1 .1) (c .before .before .before .before .before .args .c) (c .before .before .before .before .before .pre .1 .2) (c .before .before .before .before .before .pre .1 .3) _ (c .before .before .start-rules .ensures) in
-    ((length-lent (c .before .before .before .before .before .args .w .now) (c .before .before .before .before .before .pre .0), omega (arith, n, jobs-sized (c .before .before .before .before .before .args .w .now) (c .before .before .before .before .before .pre .1 .0) _ (c .before .before .before .before .before .pre .1 .1) .points), closed-lent (c .before .before .before .before .before .args .w .now) (c .before .before .before .before .before .pre .1 .0) _ (c .before .before .before .before .before .pre .1 .1) (c .before .before .before .before .before .pre .0) _ n), (r .0, r .1 _ n))
+    ((length-lent (c .before .before .before .before .before .args .w .now) (c .before .before .before .before .before .pre .0), omega (arith, n), omega (arith, n, jobs-sized (c .before .before .before .before .before .args .w .now) (c .before .before .before .before .before .pre .1 .0) _ (c .before .before .before .before .before .pre .1 .1) .points), closed-lent (c .before .before .before .before .before .args .w .now) (c .before .before .before .before .before .pre .1 .0) _ (c .before .before .before .before .before .pre .1 .1) (c .before .before .before .before .before .pre .0) _ n), (r .0, r .1 _ n))
 
 same-length : tie.Need-same-length
 same-length c = search needs
