@@ -6,9 +6,7 @@ use mathlib.Core.Bool.{Bool, true, false, cond}
 use mathlib.Core.List.{List, [], _∷_, _++_}
 use Prim.Native.Nat.{ℕ, zero, suc, _+_, _≤_, _<_}
 use native.Mathlib.Omega.{arith}
-use lib.Dec.{ltb, leb}
-use lib.ListN.{length, getD, set, length-append, length-set}
-use borrow.Author.Tests.{leb-false}
+use lib.ListN.{length, length-append, length-set}
 use Rattle.rulings.specs.Answer.{cause}
 use Rattle.plain.specs.declared.Put.{Put}
 use Rattle.plain.specs.declared.Rule.{Rule}
@@ -25,12 +23,11 @@ use Rattle.plain.specs.Plain.{
   jobFrom,
   usedFrom,
   inserted,
-  ruleBefore,
-  ruleAfter,
   placed,
   joining,
   drafted,
 }
+use Rattle.plain.proofs.Placing.{lineFor, linesWith, rulesFor, placed-keeps}
 use Rattle.lines.proofs.LineLaws.{length-inserted}
 use Rattle.lines.proofs.DraftLaws.{within}
 use Rattle.lists.specs.All.{All}
@@ -64,51 +61,39 @@ unfoldable pub PlacedSized : ℕ → Placed → Type 0
 PlacedSized n (Placed.stop c) = Unit {0}
 PlacedSized n (Placed.done ls rs) = (length ls ≡ 16) × All (SizedLine n) ls
 
--- x is p0 of the job, and k the number of its steps
+-- what holds of the allocations left and the lines so far; k is the number of the job's steps
+abbrev BeforeSized : ℕ → ℕ → List Put → List (List Use) → List Rule → Type 0
+BeforeSized n k ps ls rs = All (SizedPut k) ps × (length ls ≡ 16) × All (SizedLine n) ls
+
+-- x is p0 of the job
 placed-sized :
     (n x k i : ℕ) (ps : List Put) (ls : List (List Use)) (rs : List Rule) → 0 < x → x + k ≤ suc n
     → All (SizedPut k) ps → length ls ≡ 16 → All (SizedLine n) ls → PlacedSized n (placed x i ps ls rs)
-unfolding PlacedSized placed usedFrom
-placed-sized n x k i [] ls rs z le a e b = (e, b)
-placed-sized n x k i (p ∷ ps) ls rs z le a e b =
-    choose (ltb (length line) (p .place)) (leb 32 (length line)) refl (placed x (suc i) ps after rules)
-    (λ room. placed-sized n x k (suc i) ps after rules z le (a .1) (length-set ls (p .resource) longer ∙ e) (after-sized room))
+unfolding PlacedSized usedFrom
+placed-sized n x k i ps ls rs z le a e b =
+    placed-keeps x (BeforeSized n k) (PlacedSized n) (λ c. (tt, tt)) (λ ks qs h. (h .1, h .2)) next i ps ls rs (a, e, b)
   where
-    line : List Use
-    line = getD ls (p .resource) []
+    use-sized : (p : Put) → SizedPut k p → SizedUse n (usedFrom x p)
+    use-sized p s =
+        let at = s .step in
+        let r = s .readable in
+        record { not-origin = omega arith; live = omega (arith, at); offset = r .offset; some = s .some; length = r .length }
 
-    longer : List Use
-    longer = inserted (p .place) (usedFrom x p) line
-
-    after : List (List Use)
-    after = set ls (p .resource) longer
-
-    rules : List Rule
-    rules = rs ++ (ruleBefore line (p .place) (usedFrom x p) ++ ruleAfter line (p .place) (usedFrom x p))
-
-    use-sized : SizedUse n (usedFrom x p)
-    use-sized =
-        let s = a .0 .step in
-        let r = a .0 .readable in
-        record { not-origin = omega arith; live = omega (arith, s); offset = r .offset; some = a .0 .some; length = r .length }
-
-    line-sized : SizedLine n line
-    line-sized = all-get (SizedLine n) ls (p .resource) [] b (record { few = omega arith; uses = tt })
-
-    after-sized : length line < 32 → All (SizedLine n) after
-    after-sized room =
-        all-set (SizedLine n) ls (p .resource) longer b
-        (record {
-          few = omega (arith, length-inserted (p .place) (usedFrom x p) line);
-          uses = inserted-sized n (p .place) (usedFrom x p) line use-sized (line-sized .uses);
-        })
-
-    choose :
-        (exceeds has32 : Bool) → leb 32 (length line) ≡ has32 → (next : Placed) → (length line < 32 → PlacedSized n next)
-        → PlacedSized n (cond exceeds (Placed.stop (cause 15 i)) (cond has32 (Placed.stop (cause 16 i)) next))
-    choose true has32 e next q = tt
-    choose false true e next q = tt
-    choose false false e next q = q (leb-false 32 (length line) e)
+    next :
+        (p : Put) (ps : List Put) (ls : List (List Use)) (rs : List Rule) → p .place ≤ length (lineFor ls p) → length (lineFor ls p) < 32
+        → BeforeSized n k (p ∷ ps) ls rs → BeforeSized n k ps (linesWith x ls p) (rs ++ rulesFor x ls p)
+    next p ps ls rs fits room h =
+        let line = lineFor ls p in
+        let longer = inserted (p .place) (usedFrom x p) line in
+        let sized : SizedLine n line = all-get (SizedLine n) ls (p .resource) [] (h .2) (record { few = omega arith; uses = tt }) in (
+          h .0 .1,
+          length-set ls (p .resource) longer ∙ h .1,
+          all-set (SizedLine n) ls (p .resource) longer (h .2)
+              (record {
+                few = omega (arith, length-inserted (p .place) (usedFrom x p) line);
+                uses = inserted-sized n (p .place) (usedFrom x p) line (use-sized p (h .0 .0)) (sized .uses);
+              }),
+        )
 
 -- ---- drafts
 

@@ -5,16 +5,16 @@
 use mathlib.Core.Path.{_≡_, refl, sym, ap, _∙_}
 use mathlib.Core.Logic.{_↔_, _⊎_, inl, inr}
 use mathlib.Core.Bool.{Bool, true, false, true≢false, false≢true, cond, _||_}
-use mathlib.Core.List.{List, [], _∷_, _++_}
+use mathlib.Core.List.{List, []}
 use mathlib.Core.Option.{Option, some, none}
-use Prim.Native.Nat.{ℕ, suc, _+_, _≤_, _<_}
+use Prim.Native.Nat.{ℕ, _+_, _≤_, _<_}
 use native.Mathlib.Decide.{decLe}
 use native.Mathlib.Omega.{arith}
 use lib.Dec.{ltb, leb}
-use lib.ListN.{length, getD, set}
+use lib.ListN.{length}
 use borrow.Author.Tests.{lt-leb, le-ltb}
 use Rattle.rulings.specs.declared.Ruling.the-variants.{Refused}
-use Rattle.rulings.specs.Answer.{cause, plain, refuse, numberOf}
+use Rattle.rulings.specs.Answer.{plain, refuse, numberOf}
 use Rattle.plain.specs.declared.Put.{Put}
 use Rattle.plain.specs.declared.Rule.{Rule}
 use Rattle.plain.specs.declared.Use.{Use}
@@ -27,14 +27,11 @@ use Rattle.plain.specs.Plain.{
   liveCount,
   full,
   pointsOf,
-  usedFrom,
-  inserted,
-  ruleBefore,
-  ruleAfter,
   placed,
   joining,
   drafted,
 }
+use Rattle.plain.proofs.Placing.{placed-keeps}
 use Rattle.lines.proofs.DraftLaws.{within}
 use Rattle.boardwords.specs.declared.Board.{Board}
 use Rattle.board.specs.Boards.{stateOf}
@@ -71,25 +68,9 @@ Other (Placed.stop c) = 15 ≤ numberOf (Refused c)
 Other (Placed.done ls rs) = Unit {0}
 
 pub placed-other : (x i : ℕ) (ps : List Put) (ls : List (List Use)) (rs : List Rule) → Other (placed x i ps ls rs)
-unfolding Other placed
-placed-other x i [] ls rs = tt
-placed-other x i (p ∷ ps) ls rs = choose (ltb (length line) (p .place)) (leb 32 (length line)) _ (placed-other x (suc i) ps after rules)
-  where
-    line : List Use
-    line = getD ls (p .resource) []
-
-    after : List (List Use)
-    after = set ls (p .resource) (inserted (p .place) (usedFrom x p) line)
-
-    rules : List Rule
-    rules = rs ++ (ruleBefore line (p .place) (usedFrom x p) ++ ruleAfter line (p .place) (usedFrom x p))
-
-    choose :
-        (exceeds has32 : Bool) (next : Placed) → Other next
-        → Other (cond exceeds (Placed.stop (cause 15 i)) (cond has32 (Placed.stop (cause 16 i)) next))
-    choose true has32 next q = omega arith
-    choose false true next q = omega arith
-    choose false false next q = q
+unfolding Other
+placed-other x i ps ls rs =
+    placed-keeps x (λ ps ls rs. Unit {0}) Other (λ k. (omega arith, omega arith)) (λ ls rs h. tt) (λ p ps ls rs fits room h. tt) i ps ls rs tt
 
 module _ (b : Board) (o : Offer) where
   settled-other : (s : State) (q : Option (List ℕ)) → settled b 17 s q .ruling ≡ refuse 14 → ⊥

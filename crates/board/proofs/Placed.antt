@@ -5,16 +5,16 @@
 use mathlib.Core.Path.{_≡_, refl}
 use mathlib.Core.Bool.{Bool, true, false, cond}
 use mathlib.Core.List.{List, [], _∷_, _++_}
-use Prim.Native.Nat.{ℕ, zero, suc, _+_, _*_, _≤_}
+use Prim.Native.Nat.{ℕ, zero, suc, _+_, _*_, _≤_, _<_}
 use native.Mathlib.Omega.{arith}
-use lib.Dec.{ltb, leb}
-use lib.ListN.{length, getD, set, length-append}
-use borrow.Author.Tests.{ltb-true, ltb-false}
-use Rattle.rulings.specs.Answer.{cause}
+use lib.Dec.{ltb}
+use lib.ListN.{length, getD, length-append}
+use borrow.Author.Tests.{ltb-true}
 use Rattle.plain.specs.declared.Use.{Use}
 use Rattle.plain.specs.declared.Put.{Put}
 use Rattle.plain.specs.declared.Rule.{Rule}
 use Rattle.plain.specs.Plain.{noUse, inOrder, inserted, ruleBefore, ruleAfter, usedFrom, placed, Placed}
+use Rattle.plain.proofs.Placing.{lineFor, linesWith, rulesFor, placed-keeps}
 use Rattle.lines.proofs.RuleLaws.{before-few, after-few}
 use Rattle.lists.specs.All.{All}
 use Rattle.lists.proofs.All.{all-at, all-get, all-append, all-set}
@@ -46,53 +46,36 @@ module _ (U : Use → Type 0) (R : Rule → Type 0) (order : (a b : Use) → U a
       go true e = (order u (getD l p noUse) h (all-at U l noUse a p (ltb-true p (length l) e)), tt)
       go false e = tt
 
+  -- what holds of the allocations left, the lines and the rules so far
+  abbrev Before : ℕ → ℕ → List Put → List (List Use) → List Rule → Type 0
+  Before x n ps ls rs = All (λ p. U (usedFrom x p)) ps × All (All U) ls × All R rs × (length rs + 2 * length ps ≤ n)
+
   pub placed-all :
       (x i n : ℕ) (ps : List Put) (ls : List (List Use)) (rs : List Rule)
       → All (λ p. U (usedFrom x p)) ps → All (All U) ls → All R rs → length rs + 2 * length ps ≤ n → Placing n (placed x i ps ls rs)
-  unfolding Placing placed
-  placed-all x i n [] ls rs a b c le = (b, c, omega arith)
-  placed-all x i n (p ∷ ps) ls rs a b c le =
-      choose (ltb (length line) (p .place)) refl (leb 32 (length line)) (placed x (suc i) ps next rules)
-      (λ fits. placed-all x (suc i) n ps next rules (a .1) next-all (rules-all fits) (omega (arith, le, many)))
+  unfolding Placing
+  placed-all x i n ps ls rs a b c le =
+      placed-keeps x (Before x n) (Placing n) (λ k. (tt, tt)) (λ ks qs h. (h .1, h .2, omega (arith, h .3))) next i ps ls rs (a, b, c, le)
     where
-      line : List Use
-      line = getD ls (p .resource) []
-
-      u : Use
-      u = usedFrom x p
-
-      next : List (List Use)
-      next = set ls (p .resource) (inserted (p .place) u line)
-
-      made : List Rule
-      made = ruleBefore line (p .place) u ++ ruleAfter line (p .place) u
-
-      rules : List Rule
-      rules = rs ++ made
-
-      many : length rules ≤ length rs + 2
-      many =
-          omega (
-            arith,
-            length-append rs made,
-            length-append (ruleBefore line (p .place) u) (ruleAfter line (p .place) u),
-            before-few line (p .place) u,
-            after-few line (p .place) u,
+      next :
+          (p : Put) (ps : List Put) (ls : List (List Use)) (rs : List Rule) → p .place ≤ length (lineFor ls p) → length (lineFor ls p) < 32
+          → Before x n (p ∷ ps) ls rs → Before x n ps (linesWith x ls p) (rs ++ rulesFor x ls p)
+      next p ps ls rs fits room h =
+          let line = lineFor ls p in
+          let u = usedFrom x p in
+          let k = p .place in
+          let line-all = line-at ls (p .resource) (h .1) in
+          let before = before-all line k u fits line-all (h .0 .0) in
+          let after = after-all line k u line-all (h .0 .0) in (
+            h .0 .1,
+            all-set (All U) ls (p .resource) (inserted k u line) (h .1) (inserted-all k u line (h .0 .0) line-all),
+            all-append R rs (rulesFor x ls p) (h .2) (all-append R (ruleBefore line k u) (ruleAfter line k u) before after),
+            omega (
+              arith,
+              h .3,
+              length-append rs (rulesFor x ls p),
+              length-append (ruleBefore line k u) (ruleAfter line k u),
+              before-few line k u,
+              after-few line k u,
+            ),
           )
-
-      next-all : All (All U) next
-      next-all = all-set (All U) ls (p .resource) (inserted (p .place) u line) b (inserted-all (p .place) u line (a .0) (line-at ls (p .resource) b))
-
-      rules-all : p .place ≤ length line → All R rules
-      rules-all fits =
-          all-append R rs made c
-          (all-append R (ruleBefore line (p .place) u) (ruleAfter line (p .place) u)
-          (before-all line (p .place) u fits (line-at ls (p .resource) b) (a .0))
-          (after-all line (p .place) u (line-at ls (p .resource) b) (a .0)))
-
-      choose :
-          (exceeds : Bool) → ltb (length line) (p .place) ≡ exceeds → (has32 : Bool) (q : Placed) → (p .place ≤ length line → Placing n q)
-          → Placing n (cond exceeds (Placed.stop (cause 15 i)) (cond has32 (Placed.stop (cause 16 i)) q))
-      choose true e has32 q f = tt
-      choose false e true q f = tt
-      choose false e false q f = f (ltb-false (length line) (p .place) e)

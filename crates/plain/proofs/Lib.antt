@@ -1,3 +1,4 @@
 pub mod Whole
 pub mod Rules
 pub mod Points
+pub mod Placing
