@@ -3,9 +3,12 @@
 --   accepted s l      accepted: the board of the state s and the cells l
 --   settled b n s o   accepted with the cells o; refused with the number n where there are none
 --   after r b a       a refusal r comes first, then the answer a
+--   decided b d       what a draft d comes to: 14, 15, 16, 17, or the board with the job;  heard b r: the same of an offer as it was read, or 7 to 13
 --   planned b p o     plan, of the plant file p and the offer o: 1 to 4, 6, 7 to 13, 14 to 16, 17, or the board with the job
+--   sendRules b place  the rules that set the points of the jobs to be sent to their earliest times
 --   sent b place      send: 6, 18, or the board with the jobs sent
 --   clocked b c       clock: 6, 19, 20, or the board with its clock moved
+--   left b d          what leaving comes to: 21, or the board without its oldest job
 --   retired b         retire: 6, 21, or the board without its oldest job
 -- Jobs, lines, clock and rules are the plain machine's, as in the rule book; the table is the list of its cells. That the cells are the
 -- gaps over the timetables meant, on every sound board, is proved in the crate agreement.

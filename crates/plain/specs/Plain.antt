@@ -1,14 +1,38 @@
 -- The plain machine (document 01, "Points, rules, timetables"): what plan, send, clock and retire do to jobs, lines and clock, and which
 -- rules they make. No table and no timetable: the rule book decides by the definition which of these rules can be kept.
+--   Offer            an offer as it was read: batch, steps, allocations
 --   State            jobs (oldest first), one line per resource, clock, horizon H, lead D
 --   total, liveCount how many points live beside the origin, and with it. The origin is point 0, the first job's p0 is point 1, and so on
+-- What later requests change, each in one place:
+--   endOf u          how long after its point a use ends
+--   batchDistance, batchOf, upperBound   the distance of rule (e), the batch of a job, the latest time of a new point
+-- Rules:
 --   notBefore x p    the rule: point x is at p or later;  notAfter x q: at q or earlier
 --   inOrder a b      the rule: use a ends no later than use b starts
---   drafted s o      plan, before timetables are looked at: 14, 15, 16, or the state to be and the rules (b) to (e)
---   bounds           the rules (a), which the rule book puts before them
---   sentState, unsentPoints, freeze   send: the state to be, the points to be set, the rules that set them
---   clockOk, clockState, starts       clock: 19, the state to be, its rules
---   leaving s        retire: no job or an unsent one, or the rules that all is over by the clock, and the state to be
+-- Plan:
+--   bounds           the rules (a), which the rule book puts before the others
+--   durations        the rules (c): how long each step lasts
+--   usedFrom, noUse  the use of an allocation; what a line has past its end
+--   inserted p u l   the line l with the use u put in after p others: (d)
+--   ruleBefore, ruleAfter   (d): the rule with the use just before the new one, and with the one just after
+--   placed           the allocations placed one after the other: 15, 16, or the new lines and the rules made (Placed)
+--   batchRules       the rule (e), if there is one: by afterNewest, with the newest job of the batch;  orElse: a list, or another where it is empty
+--   full s n         14: 16 jobs, or more than 64 points with n new ones
+--   pointsOf, jobFrom   the number of points that an offer brings, and its job
+--   drafted s o      plan, before timetables are looked at: 14, 15, 16, or the state to be and the rules (b) to (e) (Draft);  joining: once placed
+-- Send:
+--   unsentAt k js    not 18: the job at place k is there and unsent
+--   unsentPoints     the points to be set, those of the unsent jobs;  range x n: the n points from x on
+--   marked n js, sentState   the first n jobs sent; the state to be
+--   freeze v xs      the rules that set each of the points xs to its value
+-- Clock:
+--   clockOk          not 19: the clock does not go back, and does not pass H
+--   clockState, starts   the state to be; the rules that each unsent job starts late enough
+-- Retire:
+--   goes, over       whether a point is one of those that leave; the new number of one that stays
+--   staying          a line without the uses of the points that leave
+--   endsBy, allEndBy the rules that the uses of those points end by the clock: of one line, of all lines
+--   leaving s        no job or an unsent one, or the rules that all is over by the clock, and the state to be (Leaving);  leavingFrom: by the jobs
 use Prim.Native.Nat.{ℕ, zero, suc, _+_, _-_}
 use mathlib.Core.Bool.{Bool, true, false, cond, not, _&&_, _||_}
 use mathlib.Core.List.{List, [], _∷_, _++_, map}
