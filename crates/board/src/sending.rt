@@ -1,9 +1,9 @@
 // Sends jobs: their points are set to their earliest times.
 use crate::parts::live_count;
 use crate::parts::put_front;
+use boardwords::read_job;
 use boardwords::read_jobs;
 use lines::Jobs;
-use lines::is_unsent;
 use lines::mark_sent;
 use linewords::tidy_lines;
 use rulings::Cause;
@@ -12,6 +12,7 @@ use settling::freeze;
 use sound::is_sound_in;
 ghost use mathlib.Core.Path.{_≡_};
 ghost use mathlib.Core.Bool.{true};
+ghost use Prim.Native.Nat.{_≤_};
 ghost use lib.ListN.{length};
 ghost use Rattle.plain.specs.Plain.{unsentAt};
 ghost use Rattle.lines.specs.Held.{jobsOf};
@@ -20,6 +21,18 @@ ghost use Rattle.boardwords.specs.Codec.{wordsOf};
 ghost use Rattle.sound.specs.Sound.{sound};
 ghost use Rattle.board.specs.Calls.{sent};
 ghost use Rattle.board.specs.InWords.{wordsAfter};
+
+// Not 18: there is a job at this place, and it is unsent. It is read where it lies.
+fn is_unsent(w: &[u32], k: usize) -> bool
+    requires { ⌜ (length (now w) ≡ 5829) × (wordIn (now w) 3 ≤ 16) ⌝ }
+    ensures { λ r. ⌜ r ≡ unsentAt k (jobsOf (heldJobs (wordIn (now (w .entry))))) ⌝ }
+{
+    if w[3] as usize <= k {
+        return false;
+    }
+    let job = read_job(w, 4 + 3 * k);
+    !job.sent
+}
 
 // The unsent jobs up to the place are sent, on a sound board that has an unsent one there.
 fn send_up_to(w: &mut [u32], jobs: Jobs, place: usize)
@@ -43,10 +56,10 @@ pub fn send_in(w: &mut [u32], place: u32) -> Ruling
     if !is_sound_in(w) {
         return Ruling::Refused(Cause::Plain(6));
     }
-    let jobs = read_jobs(w);
-    if !is_unsent(jobs, place as usize) {
+    if !is_unsent(w, place as usize) {
         return Ruling::Refused(Cause::Plain(18));
     }
+    let jobs = read_jobs(w);
     send_up_to(w, jobs, place as usize);
     Ruling::Accepted
 }

@@ -1,8 +1,8 @@
-// The list of jobs: what plan and send do to it, and the tests 14 and 18.
+// The list of jobs: what plan and send do to it, and the test 14.
 ghost use mathlib.Core.Path.{_≡_};
 ghost use mathlib.Core.List.{[], _∷_, _++_};
 ghost use Prim.Native.Nat.{_≤_, _<_};
-ghost use Rattle.plain.specs.Plain.{State, total, full, marked, unsentAt};
+ghost use Rattle.plain.specs.Plain.{State, total, full, marked};
 ghost use Rattle.lines.specs.Held.{jobsOf, jobsFrom, noJob};
 ghost use Rattle.lines.specs.Asked.{Sized};
 use crate::Jobs;
@@ -83,16 +83,4 @@ pub fn mark_sent(jobs: Jobs, n: usize) -> Jobs
         next.jobs[k] = job;
     }
     next
-}
-
-// Not 18: there is a job at this place, and it is unsent.
-pub fn is_unsent(jobs: Jobs, k: usize) -> bool
-    requires { ⌜ jobs .count ≤ 16 ⌝ }
-    ensures { λ r. ⌜ r ≡ unsentAt k (jobsOf jobs) ⌝ }
-{
-    if jobs.count <= k {
-        return false;
-    }
-    let job = jobs.jobs[k];
-    !job.sent
 }

@@ -7,7 +7,6 @@ mod rulelist; // the list of rules
 
 pub use joblist::add_job;
 pub use joblist::is_full;
-pub use joblist::is_unsent;
 pub use joblist::mark_sent;
 pub use joblist::no_job;
 pub use joblist::points;
