@@ -27,7 +27,7 @@ use Rattle.plain.specs.Plain.{
   joining,
   drafted,
 }
-use Rattle.plain.proofs.Placing.{lineFor, linesWith, rulesFor, placed-keeps}
+use Rattle.lines.proofs.Placing.{lineFor, linesWith, rulesFor, placed-keeps}
 use Rattle.lines.proofs.LineLaws.{length-inserted}
 use Rattle.lines.proofs.DraftLaws.{within}
 use Rattle.lists.specs.All.{All}

@@ -31,7 +31,7 @@ use Rattle.plain.specs.Plain.{
   joining,
   drafted,
 }
-use Rattle.plain.proofs.Placing.{placed-keeps}
+use Rattle.lines.proofs.Placing.{placed-keeps}
 use Rattle.lines.proofs.DraftLaws.{within}
 use Rattle.boardwords.specs.declared.Board.{Board}
 use Rattle.board.specs.Boards.{stateOf}

@@ -9,13 +9,13 @@ use mathlib.Core.Bool.{Bool, true, false, cond}
 use mathlib.Core.List.{List, [], _∷_, _++_}
 use Prim.Native.Nat.{ℕ, zero, suc, _+_, _≤_, _<_}
 use native.Mathlib.Omega.{arith}
-use lib.Dec.{ltb}
+use lib.Dec.{ltb, leb}
 use lib.ListN.{length, getD, set}
+use Rattle.rulings.specs.Answer.{cause}
 use Rattle.plain.specs.declared.Use.{Use}
 use Rattle.plain.specs.declared.Put.{Put}
 use Rattle.plain.specs.declared.Rule.{Rule}
 use Rattle.plain.specs.Plain.{noUse, inOrder, inserted, ruleBefore, ruleAfter, usedFrom, placed, Placed}
-use Rattle.plain.proofs.Placing.{lineFor, linesWith, rulesFor, placed-keeps}
 use Rattle.stn.specs.Table.{Within}
 use Rattle.demands.specs.Beside.{LineIn, LinesIn}
 
@@ -85,30 +85,46 @@ unfoldable pub PlacedIn : ℕ → Placed → Type 0
 PlacedIn n (Placed.stop c) = Unit {0}
 PlacedIn n (Placed.done ls rs) = LinesIn n ls × Within n rs
 
--- what holds of the allocations left, the lines and the rules so far; k is the number of the job's steps
-abbrev BeforeIn : ℕ → ℕ → List Put → List (List Use) → List Rule → Type 0
-BeforeIn n k ps ls rs = PutsIn k ps × LinesIn n ls × Within n rs
-
--- x is p0 of the job
+-- x is p0 of the job, and k the number of its steps
 pub placed-in :
     (n x k i : ℕ) (ps : List Put) (ls : List (List Use)) (rs : List Rule) → 0 < x → x + k ≤ n
     → PutsIn k ps → LinesIn n ls → Within n rs → PlacedIn n (placed x i ps ls rs)
-unfolding PutsIn PlacedIn usedFrom
-placed-in n x k i ps ls rs z le a b w =
-    placed-keeps x (BeforeIn n k) (PlacedIn n) (λ c. (tt, tt)) (λ ks qs h. (h .1, h .2)) next i ps ls rs (a, b, w)
+unfolding PutsIn PlacedIn placed usedFrom
+placed-in n x k i [] ls rs z le a b w = (b, w)
+placed-in n x k i (p ∷ ps) ls rs z le a b w =
+    choose (ltb (length line) (p .place)) (leb 32 (length line)) (placed x (suc i) ps after rules)
+    (placed-in n x k (suc i) ps after rules z le (a .1) after-in rules-in)
   where
-    next :
-        (p : Put) (ps : List Put) (ls : List (List Use)) (rs : List Rule) → p .place ≤ length (lineFor ls p) → length (lineFor ls p) < 32
-        → BeforeIn n k (p ∷ ps) ls rs → BeforeIn n k ps (linesWith x ls p) (rs ++ rulesFor x ls p)
-    next p ps ls rs fits room h =
-        let line = lineFor ls p in
-        let u = usedFrom x p in
-        let at = p .place in
-        let line-in : LineIn n line = lines-get n (p .resource) ls (h .1) in
-        let point-in : usedFrom x p .point < n = omega (arith, h .0 .0) in (
-          h .0 .1,
-          lines-set n (p .resource) ls (inserted at u line) (h .1) (inserted-in n at u line (omega arith) point-in line-in),
-          within-append n rs (rulesFor x ls p) (h .2)
-              (within-append n (ruleBefore line at u) (ruleAfter line at u) (before-within n at line u (omega arith) line-in point-in)
-              (after-within n at line u (omega arith) line-in point-in)),
-        )
+    line : List Use
+    line = getD ls (p .resource) []
+
+    after : List (List Use)
+    after = set ls (p .resource) (inserted (p .place) (usedFrom x p) line)
+
+    rules : List Rule
+    rules = rs ++ (ruleBefore line (p .place) (usedFrom x p) ++ ruleAfter line (p .place) (usedFrom x p))
+
+    line-in : LineIn n line
+    line-in = lines-get n (p .resource) ls b
+
+    point-in : usedFrom x p .point < n
+    point-in = omega (arith, a .0)
+
+    after-in : LinesIn n after
+    after-in =
+        lines-set n (p .resource) ls (inserted (p .place) (usedFrom x p) line) b
+        (inserted-in n (p .place) (usedFrom x p) line (omega arith) point-in line-in)
+
+    rules-in : Within n rules
+    rules-in =
+        within-append n rs (ruleBefore line (p .place) (usedFrom x p) ++ ruleAfter line (p .place) (usedFrom x p)) w
+        (within-append n (ruleBefore line (p .place) (usedFrom x p)) (ruleAfter line (p .place) (usedFrom x p))
+        (before-within n (p .place) line (usedFrom x p) (omega arith) line-in point-in)
+        (after-within n (p .place) line (usedFrom x p) (omega arith) line-in point-in))
+
+    choose :
+        (exceeds has32 : Bool) (next : Placed) → PlacedIn n next
+        → PlacedIn n (cond exceeds (Placed.stop (cause 15 i)) (cond has32 (Placed.stop (cause 16 i)) next))
+    choose true has32 next q = tt
+    choose false true next q = tt
+    choose false false next q = q

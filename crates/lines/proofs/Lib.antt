@@ -5,3 +5,4 @@ pub mod LineLaws
 pub mod LeavingLaws
 pub mod RuleLaws
 pub mod DraftLaws
+pub mod Placing

@@ -1,4 +1,3 @@
 pub mod Whole
 pub mod Rules
 pub mod Points
-pub mod Placing
