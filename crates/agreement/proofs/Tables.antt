@@ -12,9 +12,9 @@ use lib.Dec.{leb}
 use lib.ListN.{length}
 use borrow.Author.Tests.{leb-true}
 use Rattle.plain.specs.declared.Rule.{Rule}
-use Rattle.stn.specs.Table.{bias, Table, Agrees, add, addAll, Within, Agree}
+use Rattle.stn.specs.Table.{bias, Table, Agrees, agrees, add, addAll, Within, Agree}
 use Rattle.stn.proofs.Agree.{agree-add}
-use Rattle.gaps.specs.Cells.{cell, tableOf, added}
+use Rattle.gaps.specs.Cells.{tableOf, added}
 use Rattle.gaps.specs.GapTable.{GapTable}
 use Rattle.gaps.proofs.Added.{added-length, added-agree}
 use Rattle.gaps.proofs.GapTable.{added-gapTable}
@@ -32,7 +32,7 @@ pub addedAll-agree :
 unfolding AgreeOutcomes addedAll addAll Within
 addedAll-agree n [] l c size few w e = e
 addedAll-agree n (r ∷ rs) l c size few w e =
-    go (leb (bias + r .more) (r .slack + cell l (r .early) (r .late))) (leb (bias + r .more) (r .slack + c (r .early) (r .late)))
+    go (agrees r (tableOf l)) (agrees r c)
     (ap (λ (z : ℕ). leb (bias + r .more) (r .slack + z)) (e (r .early) (r .late) (w .0) (w .1)))
     (addedAll-agree n rs (added l n r) (add r c) (added-length l n r size few) few (w .2)
     (λ i j hi hj. added-agree l n r size few i j hi hj ∙ agree-add n (tableOf l) c r (w .0) (w .1) e i j hi hj))
@@ -58,11 +58,11 @@ pub addedAll-good :
 unfolding addedAll Within Agrees
 addedAll-good n H [] l m size few w g e = let same = some-is l m e in (rw (← same) size, rw (← same) g)
 addedAll-good n H (r ∷ rs) l m size few w g e =
-    go (leb (bias + r .more) (r .slack + cell l (r .early) (r .late))) refl e
+    go (agrees r (tableOf l)) refl e
     (λ good rest. addedAll-good n H rs (added l n r) m (added-length l n r size few) few (w .2) good rest)
   where
     go :
-        (b : Bool) → leb (bias + r .more) (r .slack + cell l (r .early) (r .late)) ≡ b
+        (b : Bool) → agrees r (tableOf l) ≡ b
         → elim b [ true ↦ addedAll rs n (added l n r) | false ↦ none ] ≡ some m
         → (GapTable (added l n r) n H → addedAll rs n (added l n r) ≡ some m → (length m ≡ 4225) × GapTable m n H)
         → (length m ≡ 4225) × GapTable m n H
@@ -72,7 +72,7 @@ addedAll-good n H (r ∷ rs) l m size few w g e =
 pub addedAll-each : (n : ℕ) (rs : List Rule) (l m : List ℕ) → addedAll rs n l ≡ some m → addedEach rs n l ≡ m
 unfolding addedAll addedEach
 addedAll-each n [] l m e = some-is l m e
-addedAll-each n (r ∷ rs) l m e = go (leb (bias + r .more) (r .slack + cell l (r .early) (r .late))) e (addedAll-each n rs (added l n r) m)
+addedAll-each n (r ∷ rs) l m e = go (agrees r (tableOf l)) e (addedAll-each n rs (added l n r) m)
   where
     go :
         (b : Bool) → elim b [ true ↦ addedAll rs n (added l n r) | false ↦ none ] ≡ some m

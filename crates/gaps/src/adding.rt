@@ -4,9 +4,8 @@ use plain::Rule;
 ghost use mathlib.Core.Path.{_≡_};
 ghost use Prim.Native.Nat.{ℕ, _+_, _*_, _≤_, _<_, min};
 ghost use lib.ListN.{length, getD};
-ghost use lib.Dec.{leb};
 ghost use Rattle.lists.specs.Loops.{rewritten};
-ghost use Rattle.stn.specs.Table.{bias, Closed};
+ghost use Rattle.stn.specs.Table.{bias, agrees, implies, Closed};
 ghost use Rattle.gaps.specs.Cells.{cell, tableOf, rowOf, relaxed, added, Usable, Whole};
 
 // A number of a rule as an index.
@@ -29,7 +28,7 @@ fn least(a: u32, b: u32) -> u32
 pub fn agrees(t: &[u32], r: Rule) -> bool
     requires { ⌜ (length (now t) ≡ 4225) × Usable 65 r ⌝ }
     requires { ⌜ cell (now t) (r .early) (r .late) ≤ bias + bias ⌝ }
-    ensures { λ b. ⌜ b ≡ leb (bias + r .more) (r .slack + cell (now (t .entry)) (r .early) (r .late)) ⌝ }
+    ensures { λ b. ⌜ b ≡ agrees r (tableOf (now (t .entry))) ⌝ }
 {
     let at = wide(r.early) * 65 + wide(r.late);
     BIAS + r.more <= r.slack + t[at]
@@ -39,7 +38,7 @@ pub fn agrees(t: &[u32], r: Rule) -> bool
 pub fn implies(t: &[u32], r: Rule) -> bool
     requires { ⌜ (length (now t) ≡ 4225) × Usable 65 r ⌝ }
     requires { ⌜ cell (now t) (r .late) (r .early) ≤ bias + bias ⌝ }
-    ensures { λ b. ⌜ b ≡ leb (cell (now (t .entry)) (r .late) (r .early) + r .more) (bias + r .slack) ⌝ }
+    ensures { λ b. ⌜ b ≡ implies (tableOf (now (t .entry))) r ⌝ }
 {
     let at = wide(r.late) * 65 + wide(r.early);
     t[at] + r.more <= BIAS + r.slack

@@ -11,12 +11,11 @@ use mathlib.Core.Bool.{Bool, true, false}
 use mathlib.Core.List.{List, [], _∷_}
 use mathlib.Core.Option.{Option}
 use lib.ListN.{length, getD}
-use lib.Dec.{leb}
 use borrow.Author.Tests.{leb-true}
 use Rattle.plain.specs.declared.Rule.{Rule}
 use Rattle.lists.specs.Loops.{rewritten}
 use Rattle.lists.proofs.Rewritten.{rewritten-length, rewritten-in, rewritten-from, rewritten-is}
-use Rattle.stn.specs.Table.{bias, Closed, Agrees}
+use Rattle.stn.specs.Table.{bias, Closed, Agrees, agrees}
 use Rattle.gaps.specs.Cells.{cell, tableOf, added, Usable}
 use Rattle.gaps.proofs.Added.{added-length, added-closed, added-past}
 use Rattle.settling.specs.Settled.{AllUsable, addedAll, outcome}
@@ -59,15 +58,15 @@ module _ {l : List ℕ} {n : ℕ} {rs : List Rule} {t : List ℕ} {left : List R
     same-here : addedAll (r ∷ rest) n t ≡ addedAll rs n l
     same-here = subst (λ (x : List Rule). addedAll x n t ≡ addedAll rs n l) e (s .same)
 
-    pub stops : (m : List ℕ) → leb (bias + r .more) (r .slack + cell t (r .early) (r .late)) ≡ false → outcome false m ≡ addedAll rs n l
+    pub stops : (m : List ℕ) → agrees r (tableOf t) ≡ false → outcome false m ≡ addedAll rs n l
     unfolding addedAll outcome
     stops m f = sym (rw (addedAll, f)) ∙ same-here
 
-    pub agree : leb (bias + r .more) (r .slack + cell t (r .early) (r .late)) ≡ true → Agrees r (tableOf t)
+    pub agree : agrees r (tableOf t) ≡ true → Agrees r (tableOf t)
     unfolding Agrees
     agree f = leb-true _ _ f
 
-    pub goes-on : n ≤ 65 → (m : List ℕ) → leb (bias + r .more) (r .slack + cell t (r .early) (r .late)) ≡ true → m ≡ added t n r → Adding l n rs m rest
+    pub goes-on : n ≤ 65 → (m : List ℕ) → agrees r (tableOf t) ≡ true → m ≡ added t n r → Adding l n rs m rest
     unfolding addedAll
     goes-on h m f q =
         subst (λ (x : List ℕ). Adding l n rs x rest) (sym q)

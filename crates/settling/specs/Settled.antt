@@ -3,23 +3,21 @@
 --   addedAll rs n l   the cells with the rules added, or none where a rule does not agree with those before it
 --   addedEach rs n l  the cells with the rules added, where they are known to agree
 --   outcome ok l      the answer of the code that adds them: the cells, or none
-use Prim.Native.Nat.{ℕ, _+_}
+use Prim.Native.Nat.{ℕ}
 use mathlib.Core.Bool.{Bool, true, false}
 use mathlib.Core.List.{List, [], _∷_}
 use mathlib.Core.Option.{Option, some, none}
-use lib.Dec.{leb}
 use Rattle.plain.specs.declared.Rule.{Rule}
 use Rattle.lists.specs.All.{All}
-use Rattle.stn.specs.Table.{bias}
-use Rattle.gaps.specs.Cells.{cell, added, Usable}
+use Rattle.stn.specs.Table.{agrees}
+use Rattle.gaps.specs.Cells.{tableOf, added, Usable}
 
 abbrev pub AllUsable : ℕ → List Rule → Type 0
 AllUsable n rs = All (Usable n) rs
 
 unfoldable pub addedAll : List Rule → ℕ → List ℕ → Option (List ℕ)
 addedAll [] n l = some l
-addedAll (r ∷ rs) n l =
-    elim (leb (bias + r .more) (r .slack + cell l (r .early) (r .late))) [ true ↦ addedAll rs n (added l n r) | false ↦ none ]
+addedAll (r ∷ rs) n l = elim (agrees r (tableOf l)) [ true ↦ addedAll rs n (added l n r) | false ↦ none ]
 
 unfoldable pub addedEach : List Rule → ℕ → List ℕ → List ℕ
 addedEach [] n l = l

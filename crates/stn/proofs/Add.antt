@@ -11,12 +11,11 @@ use mathlib.Core.List.{List, [], _∷_}
 use mathlib.Core.Option.{Option, some, none}
 use Prim.Native.Nat.{ℕ, _+_, _≤_, _<_}
 use native.Mathlib.Omega.{arith}
-use lib.Dec.{leb}
 use borrow.Author.Tests.{leb-true, leb-false}
 use Rattle.plain.specs.declared.Rule.{Rule}
 use Rattle.plain.specs.Rules.{Times, AllKept}
 use Rattle.plain.proofs.Rules.{Keeps, KeepsAll, keeps-to, keeps-of}
-use Rattle.stn.specs.Table.{bias, Table, Closed, Fits, Agrees, add, addAll, Within}
+use Rattle.stn.specs.Table.{bias, Table, Closed, Fits, Agrees, agrees, add, addAll, Within}
 use Rattle.stn.proofs.Fits.{fits-to, fits-of}
 
 module _ (n : ℕ) (c : Table) (r : Rule) (cl : Closed n c) (x : r .early < n) (y : r .late < n) (ok : Agrees r c) where
@@ -108,10 +107,10 @@ pub addAll-added : (n : ℕ) (c : Table) (rs : List Rule) → Closed n c → Wit
 unfolding addAll Within Added AllKept Agrees
 addAll-added n c [] cl w = (cl, λ t. (λ f. (f, tt), λ p. p .0))
 addAll-added n c (r ∷ rs) cl w =
-    step (leb (bias + r .more) (r .slack + c (r .early) (r .late))) refl (λ closed. addAll-added n (add r c) rs closed (w .2))
+    step (agrees r c) refl (λ closed. addAll-added n (add r c) rs closed (w .2))
   where
     step :
-        (b : Bool) → leb (bias + r .more) (r .slack + c (r .early) (r .late)) ≡ b
+        (b : Bool) → agrees r c ≡ b
         → (Closed n (add r c) → Added n (add r c) rs (addAll rs (add r c)))
         → Added n c (r ∷ rs) (elim b [ true ↦ addAll rs (add r c) | false ↦ none ])
     step true e rest =

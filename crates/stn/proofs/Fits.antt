@@ -12,14 +12,14 @@ use mathlib.Core.Bool.{Bool, true, false, _&&_, and-assoc}
 use mathlib.Core.List.{List, [], _∷_, _++_}
 use Prim.Native.Nat.{ℕ, _+_, _≤_, _<_}
 use native.Mathlib.Omega.{arith}
-use lib.Dec.{T, leb}
+use lib.Dec.{T}
 use lib.IntN.{pos, subℕ}
 use borrow.Author.Tests.{leb-true, leb-false}
 use Rattle.plain.specs.declared.Rule.{Rule}
 use Rattle.plain.specs.Rules.{Times, AllKept}
 use Rattle.plain.proofs.Whole.{up, dn, sub-spec, whole-eq}
 use Rattle.plain.proofs.Rules.{NotLater, kept-to, kept-of, Keeps, KeepsAll, keeps-to, keeps-of}
-use Rattle.stn.specs.Table.{bias, Table, Closed, Fits, far, earliest, latest, soonest, Within, implied}
+use Rattle.stn.specs.Table.{bias, Table, Closed, Fits, far, earliest, latest, soonest, Within, implies, implied}
 
 pub fits-to : {n : ℕ} {c : Table} {t : Times} → Fits n c t → (i j : ℕ) → i < n → j < n → NotLater t j bias i (c i j)
 fits-to {n} {c} {t} f i j hi hj = kept-to t (record { early = j; more = bias; late = i; slack = c i j }) (f .cell i j hi hj)
@@ -74,10 +74,10 @@ pub implied-yes : (n : ℕ) (c : Table) (rs : List Rule) → Within n rs → T (
 unfolding Within implied AllKept
 implied-yes n c [] w i t f = tt
 implied-yes n c (r ∷ rs) w i t f =
-    go (leb (c (r .late) (r .early) + r .more) (bias + r .slack)) refl i (λ j. implied-yes n c rs (w .2) j t f)
+    go (implies c r) refl i (λ j. implied-yes n c rs (w .2) j t f)
   where
     go :
-        (b : Bool) → leb (c (r .late) (r .early) + r .more) (bias + r .slack) ≡ b → T (b && implied c rs)
+        (b : Bool) → implies c r ≡ b → T (b && implied c rs)
         → (T (implied c rs) → KeepsAll t rs) → Keeps t r × KeepsAll t rs
     go true e i rest = (implied-to n c r (w .0) (w .1) (leb-true _ _ e) t f, rest i)
     go false e i rest = absurd i
@@ -87,9 +87,9 @@ pub implied-no :
 unfolding Within implied AllKept
 implied-no n c [] cl w k = tt
 implied-no n c (r ∷ rs) cl w k =
-    go (leb (c (r .late) (r .early) + r .more) (bias + r .slack)) refl (implied-no n c rs cl (w .2) (λ t o f. k t o f .1))
+    go (implies c r) refl (implied-no n c rs cl (w .2) (λ t o f. k t o f .1))
   where
-    go : (b : Bool) → leb (c (r .late) (r .early) + r .more) (bias + r .slack) ≡ b → T (implied c rs) → T (b && implied c rs)
+    go : (b : Bool) → implies c r ≡ b → T (implied c rs) → T (b && implied c rs)
     go true e rest = rest
     go false e rest =
         let fails : bias + r .slack < c (r .late) (r .early) + r .more = leb-false _ _ e in
@@ -99,7 +99,7 @@ pub implied-append : (c : Table) (rs ss : List Rule) → implied c (rs ++ ss) �
 unfolding implied
 implied-append c [] ss = refl
 implied-append c (r ∷ rs) ss =
-    let here : Bool = leb (c (r .late) (r .early) + r .more) (bias + r .slack) in
+    let here : Bool = implies c r in
     ap (_&&_ here) (implied-append c rs ss) ∙ sym (and-assoc here (implied c rs) (implied c ss))
 
 -- ---- the earliest times
