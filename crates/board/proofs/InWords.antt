@@ -25,7 +25,7 @@ use Rattle.gaps.specs.Cells.{tableOf}
 use Rattle.boardwords.specs.declared.Board.{Board}
 use Rattle.boardwords.specs.Words.{wordIn, heldJobs, linesFrom, lineAt, allMarked, boardIn}
 use Rattle.boardwords.specs.Codec.{wordsOf, counted, headWords, jobsWords, linesWords, put}
-use Rattle.boardwords.proofs.Listed.{length-listed}
+use Rattle.lists.proofs.Build.{build-length}
 use Rattle.boardwords.proofs.Boards.{same-lines}
 use Rattle.boardwords.proofs.Put.{put-length, put-from, put-frame, length-jobs}
 use Rattle.boardwords.proofs.Lent.{lentTable, wordsWith, cells-lent, with-word, written}
@@ -38,7 +38,7 @@ use Rattle.board.specs.InWords.{wordsAfter, fronted}
 use Rattle.board.proofs.OnSound.{sized, lines-small, closed}
 
 pub lines-many : (w : List ℕ) → length (boardIn w .lines) ≡ 16
-lines-many w = length-listed (lineAt (wordIn w)) 16
+lines-many w = build-length (lineAt (wordIn w)) 16
 
 -- ---- answers
 

@@ -27,7 +27,7 @@ use Rattle.settling.specs.Settled.{AllUsable, addedAll, outcome}
 use Rattle.offered.specs.Sized.{SizedOffer}
 use Rattle.boardwords.specs.Words.{wordIn, heldJobs, lineAt, boardIn, linesFrom as readFrom}
 use Rattle.boardwords.specs.Codec.{linesWords, put}
-use Rattle.boardwords.proofs.Listed.{length-listed}
+use Rattle.lists.proofs.Build.{build-length}
 use Rattle.boardwords.proofs.Lent.{lentTable, wordsWith, cells-lent, unwritten}
 use Rattle.linewords.proofs.Copied.{copied-lines, copied-put, written-lines}
 use Rattle.sound.specs.Sound.{sound}
@@ -71,7 +71,7 @@ module _ (w : List ℕ) (e : sound (boardIn w) ≡ true) where
         → (linesOf (readFrom (wordIn z)) ≡ linesOf (boardIn w .lines)) × Ready (readFrom (wordIn z))
     tidied-copy z long ez =
         let ls = readFrom (wordIn x) in
-        let many : length ls ≡ 16 = length-listed (lineAt (wordIn x)) 16 in
+        let many : length ls ≡ 16 = build-length (lineAt (wordIn x)) 16 in
         let back : readFrom (wordIn z) ≡ linesFrom (linesOf ls) =
         ap (λ (y : List ℕ). readFrom (wordIn y)) ez
         ∙ written-lines x (linesFrom (linesOf ls)) long (length-map (linesOf ls) lineFrom ∙ (length-map ls lineOf ∙ many))

@@ -31,7 +31,7 @@ use Rattle.board.specs.Boards.{stateOf}
 use Rattle.lines.specs.Asked.{Lined}
 use Rattle.boardwords.specs.Words.{wordIn, heldJobs, jobAt, cellAt, cellsFrom, boardIn, linesFrom as readFrom}
 use Rattle.boardwords.specs.Codec.{linesWords, put}
-use Rattle.boardwords.proofs.Listed.{length-listed}
+use Rattle.lists.proofs.Build.{build-length}
 use Rattle.boardwords.proofs.Lent.{lentTable, wordsWith, cells-lent}
 use Rattle.board.specs.Calls.{refusal, left, retired}
 use Rattle.board.specs.InWords.{wordsAfter, fronted}
@@ -149,12 +149,12 @@ module _
     first : jobsOf (boardIn w .jobs) ≡ getD (boardIn w .jobs .jobs) 0 noJob ∷ drop 1 (jobsOf (boardIn w .jobs))
     first =
         oldest-first (boardIn w) (subst (λ (j : Jobs). 1 ≤ j .count) ej there)
-        (omega (arith, is-sound w e .jobs, length-listed (jobAt (wordIn w)) 16))
+        (omega (arith, is-sound w e .jobs, build-length (jobAt (wordIn w)) 16))
 
     leaving-read : Leaving (boardIn w .jobs)
     leaving-read =
         let s = is-sound w e in (
-          in-reach (boardIn w) _ _ first s (wordIn w 2) (s .clock) (length-listed (cellAt (wordIn w)) 4225),
+          in-reach (boardIn w) _ _ first s (wordIn w 2) (s .clock) (build-length (cellAt (wordIn w)) 4225),
           some (boardIn w) _ _ first s,
           lined (boardIn w) s (lines-many w),
           few (boardIn w) _ _ first s,

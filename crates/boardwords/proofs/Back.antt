@@ -18,7 +18,7 @@ use Rattle.lines.specs.Held.{noJob, noLine}
 use Rattle.boardwords.specs.declared.Board.{Board}
 use Rattle.boardwords.specs.Words.{wordIn, boardIn, jobAt, useAt, lineAt, linesFrom, cellAt}
 use Rattle.boardwords.specs.Codec.{counted, jobWords, useWords, lineWords, jobsWords, linesWords, cellsWords, headWords, frameWords, wordsOf, Writable}
-use Rattle.boardwords.proofs.Listed.{past, listed-same, listed-at, listed-back}
+use Rattle.lists.proofs.Build.{past, build-same, build-at, build-back}
 use Rattle.boardwords.proofs.Blocks.{joined-at}
 use Rattle.boardwords.proofs.Put.{length-line, length-jobs, length-frame}
 use Rattle.boardwords.proofs.Inverse.{counted-is, mark-small, mark-is, marks-hold}
@@ -94,7 +94,7 @@ module _ (b : Board) where
   unfolding wordsOf
   cell-word k h =
       past (frameWords b) (cellsWords (b .gaps)) (1604 + k) k 0 (omega (arith, length-frame b))
-      ∙ listed-at (λ i. getD (b .gaps) i 0) 4225 k 0 h
+      ∙ build-at (λ i. getD (b .gaps) i 0) 4225 k 0 h
 
   marks-written : (k : ℕ) → k < 16 → wordIn (wordsOf b) (6 + 3 * k) ≤ 1
   marks-written k h =
@@ -123,21 +123,21 @@ module _ (b : Board) where
   line-back k h len small =
       same-line (getD (b .lines) k noLine)
       (written-line k h ∙ counted-is (getD (b .lines) k noLine .count) small)
-      (listed-same (useAt (wordIn (wordsOf b)) (52 + 97 * k + 1)) (λ m. getD (getD (b .lines) k noLine .uses) m noUse) 32
+      (build-same (useAt (wordIn (wordsOf b)) (52 + 97 * k + 1)) (λ m. getD (getD (b .lines) k noLine .uses) m noUse) 32
       (λ m l. use-back k m h l)
-      ∙ listed-back (getD (b .lines) k noLine .uses) 32 noUse len)
+      ∙ build-back (getD (b .lines) k noLine .uses) 32 noUse len)
 
   pub lines-back :
       length (b .lines) ≡ 16 → ((k : ℕ) → k < 16 → length (getD (b .lines) k noLine .uses) ≡ 32)
       → ((k : ℕ) → k < 16 → getD (b .lines) k noLine .count ≤ 4294967295) → linesFrom (wordIn (wordsOf b)) ≡ b .lines
   lines-back many full small =
-      listed-same (lineAt (wordIn (wordsOf b))) (λ k. getD (b .lines) k noLine) 16 (λ k h. line-back k h (full k h) (small k h))
-      ∙ listed-back (b .lines) 16 noLine many
+      build-same (lineAt (wordIn (wordsOf b))) (λ k. getD (b .lines) k noLine) 16 (λ k h. line-back k h (full k h) (small k h))
+      ∙ build-back (b .lines) 16 noLine many
 
   pub board-back : Writable b → boardIn (wordsOf b) ≡ b
   board-back s =
       same-board b (rw (marks-hold (wordIn (wordsOf b)) marks-written) (head-words .0)) (head-words .1) (head-words .2)
       (head-words .3 ∙ counted-is (b .jobs .count) (s .1))
-      (listed-same (jobAt (wordIn (wordsOf b))) (λ k. getD (b .jobs .jobs) k noJob) 16 job-back ∙ listed-back (b .jobs .jobs) 16 noJob (s .0 .0))
+      (build-same (jobAt (wordIn (wordsOf b))) (λ k. getD (b .jobs .jobs) k noJob) 16 job-back ∙ build-back (b .jobs .jobs) 16 noJob (s .0 .0))
       (lines-back (s .0 .1) (s .0 .2) (s .2))
-      (listed-same (cellAt (wordIn (wordsOf b))) (λ k. getD (b .gaps) k 0) 4225 cell-word ∙ listed-back (b .gaps) 4225 0 (s .0 .3))
+      (build-same (cellAt (wordIn (wordsOf b))) (λ k. getD (b .gaps) k 0) 4225 cell-word ∙ build-back (b .gaps) 4225 0 (s .0 .3))

@@ -9,9 +9,9 @@ use mathlib.Core.List.{List, [], _++_}
 use lib.ListN.{length, getD, length-append, List·getD-append}
 use native.Mathlib.Decide.{decLt}
 use native.Mathlib.Omega.{arith}
-use Rattle.boardwords.specs.Words.{listed}
+use Rattle.lists.specs.Loops.{build}
 use Rattle.boardwords.specs.Codec.{joined}
-use Rattle.boardwords.proofs.Listed.{past, listed-add}
+use Rattle.lists.proofs.Build.{past, build-none, build-add}
 
 pub length-joined : (f : ℕ → List ℕ) (s n : ℕ) → ((k : ℕ) → length (f k) ≡ s) → length (joined f n) ≡ s * n
 unfolding joined
@@ -22,22 +22,18 @@ length-joined f s (suc n) e =
     more : (s n : ℕ) → s * n + s ≡ s * suc n
     more s n = omega arith
 
-listed-none : (f : ℕ → ℕ) → listed f 0 ≡ []
-unfolding listed
-listed-none f = refl
-
 pub joined-same : (f g : ℕ → List ℕ) (n : ℕ) → ((k : ℕ) → k < n → f k ≡ g k) → joined f n ≡ joined g n
 unfolding joined
 joined-same f g zero e = refl
 joined-same f g (suc n) e = ap₂ (λ (l m : List ℕ). l ++ m) (joined-same f g n (λ k h. e k (omega arith))) (e n (omega arith))
 
-pub joined-blocks : (f : ℕ → ℕ) (s n : ℕ) → joined (λ k. listed (λ i. f (s * k + i)) s) n ≡ listed f (s * n)
+pub joined-blocks : (f : ℕ → ℕ) (s n : ℕ) → joined (λ k. build (λ i. f (s * k + i)) s) n ≡ build f (s * n)
 unfolding joined
-joined-blocks f s zero = sym (ap (listed f) {x = s * 0} {y = 0} (omega arith) ∙ listed-none f)
+joined-blocks f s zero = sym (ap (build f) {x = s * 0} {y = 0} (omega arith) ∙ build-none f)
 joined-blocks f s (suc n) =
-    ap (λ (l : List ℕ). l ++ listed (λ i. f (s * n + i)) s) (joined-blocks f s n)
-    ∙ sym (listed-add f (s * n) s)
-    ∙ ap (listed f) {x = s * n + s} {y = s * suc n} (omega arith)
+    ap (λ (l : List ℕ). l ++ build (λ i. f (s * n + i)) s) (joined-blocks f s n)
+    ∙ sym (build-add f (s * n) s)
+    ∙ ap (build f) {x = s * n + s} {y = s * suc n} (omega arith)
 
 -- element i of block k stands before the end of block k
 inside : (s k n i : ℕ) → k < n → i < s → s * k + i < s * n

@@ -16,37 +16,33 @@ use Rattle.plain.specs.declared.Use.{Use}
 use Rattle.plain.specs.Plain.{noUse}
 use Rattle.lines.specs.Held.{lineOf, noLine}
 use Rattle.lines.proofs.Lists.{length-held}
-use Rattle.lists.specs.Loops.{allBelow}
+use Rattle.lists.specs.Loops.{build}
+use Rattle.lists.proofs.AllBelow.{allBelow-same}
 use Rattle.boardwords.specs.declared.Board.{Board}
-use Rattle.boardwords.specs.Words.{Words, wordAt, wordIn, zeros, listed, useFrom, lineFrom, jobAt, useAt, lineAt, linesFrom, cellAt, boardFrom, boardIn, allMarked, marked, decoded}
-use Rattle.boardwords.proofs.Listed.{length-listed, same-listed, listed-same, listed-at}
+use Rattle.boardwords.specs.Words.{Words, wordAt, wordIn, zeros, useFrom, lineFrom, jobAt, useAt, lineAt, linesFrom, cellAt, boardFrom, boardIn, allMarked, marked, decoded}
+use Rattle.lists.proofs.Build.{build-length, build-replicate, build-same, build-at}
 
 pub no-line-is : (u : Use) → u ≡ useFrom zeros 0 → record { count = 0; uses = replicate 32 u } ≡ lineFrom zeros 0
-no-line-is u e = ap (λ (l : List Use). record { count = 0; uses = l }) (ap (replicate 32) e ∙ same-listed 32 (useFrom zeros 0))
+no-line-is u e = ap (λ (l : List Use). record { count = 0; uses = l }) (ap (replicate 32) e ∙ build-replicate 32 (useFrom zeros 0))
 
 -- ---- lines read from words
 
 pub line-of : (w : Words) (r : ℕ) → r < 16 → getD (linesFrom w) r noLine ≡ lineAt w r
-line-of w r h = listed-at (lineAt w) 16 r noLine h
+line-of w r h = build-at (lineAt w) 16 r noLine h
 
 module _ (w : Words) (at : ℕ) where
   pub held-size : w at ≤ 32 → length (lineOf (lineFrom w at)) ≡ w at
-  held-size h = length-held (w at) (lineFrom w at .uses) (omega (arith, length-listed (useAt w (at + 1)) 32))
+  held-size h = length-held (w at) (lineFrom w at .uses) (omega (arith, build-length (useAt w (at + 1)) 32))
 
   pub held-use : (k : ℕ) → k < w at → k < 32 → getD (lineOf (lineFrom w at)) k noUse ≡ useAt w (at + 1) k
-  held-use k h room = getD-take (w at) (lineFrom w at .uses) k noUse h ∙ listed-at (useAt w (at + 1)) 32 k noUse room
+  held-use k h room = getD-take (w at) (lineFrom w at .uses) k noUse h ∙ build-at (useAt w (at + 1)) 32 k noUse room
 
 -- ---- the same words
-
-allBelow-same : (f g : ℕ → Bool) (n : ℕ) → ((k : ℕ) → k < n → f k ≡ g k) → allBelow f n ≡ allBelow g n
-unfolding allBelow
-allBelow-same f g zero e = refl
-allBelow-same f g (suc n) e = ap₂ _&&_ (allBelow-same f g n (λ k h. e k (omega arith))) (e n (omega arith))
 
 module _ (v w : Words) where
   pub same-line : (at : ℕ) → ((k : ℕ) → at ≤ k → k < at + 97 → v k ≡ w k) → lineFrom v at ≡ lineFrom w at
   same-line at same =
-      rw (same at (omega arith) (omega arith), listed-same (useAt v (at + 1)) (useAt w (at + 1)) 32 one) refl
+      rw (same at (omega arith) (omega arith), build-same (useAt v (at + 1)) (useAt w (at + 1)) 32 one) refl
     where
       one : (m : ℕ) → m < 32 → useAt v (at + 1) m ≡ useAt w (at + 1) m
       one m l =
@@ -54,7 +50,7 @@ module _ (v w : Words) where
           rw (same to (omega arith) (omega arith), same (to + 1) (omega arith) (omega arith), same (to + 2) (omega arith) (omega arith)) refl
 
   pub same-lines : ((k : ℕ) → 52 ≤ k → k < 1604 → v k ≡ w k) → linesFrom v ≡ linesFrom w
-  same-lines same = listed-same (lineAt v) (lineAt w) 16 (λ k h. same-line (52 + 97 * k) (λ i a b. same i (omega arith) (omega arith)))
+  same-lines same = build-same (lineAt v) (lineAt w) 16 (λ k h. same-line (52 + 97 * k) (λ i a b. same i (omega arith) (omega arith)))
 
 module _ (v w : Words) (same : (k : ℕ) → k < 5829 → v k ≡ w k) where
   same-job : (k : ℕ) → k < 16 → jobAt v k ≡ jobAt w k
@@ -75,21 +71,21 @@ module _ (v w : Words) (same : (k : ℕ) → k < 5829 → v k ≡ w k) where
         same 1 (omega arith),
         same 2 (omega arith),
         same 3 (omega arith),
-        listed-same (jobAt v) (jobAt w) 16 same-job,
+        build-same (jobAt v) (jobAt w) 16 same-job,
         same-lines v w (λ k a b. same k (omega arith)),
-        listed-same (cellAt v) (cellAt w) 4225 (λ k h. same (1604 + k) (omega arith)),
+        build-same (cellAt v) (cellAt w) 4225 (λ k h. same (1604 + k) (omega arith)),
       ) refl
 
 -- ---- the board of bytes
 
 module _ (s : List ℕ) where
   pub decoded-whole :
-      (l : List ℕ) (b : Board) → length s ≡ 23316 → l ≡ listed (wordAt s) 5829 → b ≡ boardIn l
+      (l : List ℕ) (b : Board) → length s ≡ 23316 → l ≡ build (wordAt s) 5829 → b ≡ boardIn l
       → record { whole = true; board = b } ≡ decoded s
   unfolding decoded
   decoded-whole l b h el eb =
       let is : b ≡ boardFrom (wordAt s) =
-      eb ∙ (ap boardIn el ∙ same-words (wordIn (listed (wordAt s) 5829)) (wordAt s) (λ k lt. listed-at (wordAt s) 5829 k 0 lt)) in
+      eb ∙ (ap boardIn el ∙ same-words (wordIn (build (wordAt s) 5829)) (wordAt s) (λ k lt. build-at (wordAt s) 5829 k 0 lt)) in
       rw (eq-eqb (length s) 23316 h, is) refl
 
   pub decoded-zeros :
@@ -98,5 +94,5 @@ module _ (s : List ℕ) where
   decoded-zeros b h eb =
       let is : b ≡ boardFrom zeros =
       eb ∙ same-words (wordIn (replicate 5829 0)) zeros
-      (λ k lt. ap (λ (l : List ℕ). getD l k 0) (same-listed 5829 0) ∙ listed-at (λ i. 0) 5829 k 0 lt) in
+      (λ k lt. ap (λ (l : List ℕ). getD l k 0) (build-replicate 5829 0) ∙ build-at (λ i. 0) 5829 k 0 lt) in
       rw (ne-eqb (length s) 23316 h, is) refl

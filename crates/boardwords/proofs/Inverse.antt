@@ -15,9 +15,10 @@ use native.Mathlib.Omega.{arith}
 use Rattle.plain.specs.Plain.{noUse}
 use Rattle.lines.specs.Held.{noJob, noLine}
 use Rattle.lists.proofs.AllBelow.{allBelow-of}
-use Rattle.boardwords.specs.Words.{Words, wordIn, boardIn, listed, jobAt, jobsFrom, useAt, usesFrom, lineAt, linesFrom, cellAt, cellsFrom, marked, allMarked, boardFrom}
+use Rattle.lists.specs.Loops.{build}
+use Rattle.boardwords.specs.Words.{Words, wordIn, boardIn, jobAt, jobsFrom, useAt, usesFrom, lineAt, linesFrom, cellAt, cellsFrom, marked, allMarked, boardFrom}
 use Rattle.boardwords.specs.Codec.{counted, markOf, jobWords, useWords, usesWords, lineWords, jobsWords, linesWords, cellsWords, headWords, frameWords, wordsOf}
-use Rattle.boardwords.proofs.Listed.{listed-same, listed-at, listed-back, listed-add}
+use Rattle.lists.proofs.Build.{build-same, build-at, build-back, build-add}
 use Rattle.boardwords.proofs.Blocks.{joined-same, joined-blocks}
 
 -- ---- counts and marks
@@ -62,83 +63,83 @@ marks-hold w h =
 three : {a b c x y z : ℕ} → a ≡ x → b ≡ y → c ≡ z → (a ∷ b ∷ c ∷ []) ≡ (x ∷ y ∷ z ∷ [])
 three p q r = rw (p, q, r)
 
-listed-three : (f : ℕ → ℕ) → listed f 3 ≡ (f 0 ∷ f 1 ∷ f 2 ∷ [])
-unfolding listed
-listed-three f = refl
+build-three : (f : ℕ → ℕ) → build f 3 ≡ (f 0 ∷ f 1 ∷ f 2 ∷ [])
+unfolding build
+build-three f = refl
 
-listed-four : (f : ℕ → ℕ) → listed f 4 ≡ (f 0 ∷ f 1 ∷ f 2 ∷ f 3 ∷ [])
-unfolding listed
-listed-four f = refl
+build-four : (f : ℕ → ℕ) → build f 4 ≡ (f 0 ∷ f 1 ∷ f 2 ∷ f 3 ∷ [])
+unfolding build
+build-four f = refl
 
-listed-one : (f : ℕ → ℕ) → listed f 1 ≡ (f 0 ∷ [])
-unfolding listed
-listed-one f = refl
+build-one : (f : ℕ → ℕ) → build f 1 ≡ (f 0 ∷ [])
+unfolding build
+build-one f = refl
 
 module _ (w : Words) where
   -- three words from a place on, as a block
-  block : (p k : ℕ) → (w (p + 3 * k) ∷ w (p + 3 * k + 1) ∷ w (p + 3 * k + 2) ∷ []) ≡ listed (λ i. w (p + (3 * k + i))) 3
+  block : (p k : ℕ) → (w (p + 3 * k) ∷ w (p + 3 * k + 1) ∷ w (p + 3 * k + 2) ∷ []) ≡ build (λ i. w (p + (3 * k + i))) 3
   block p k =
       three (ap w {x = p + 3 * k} {y = p + (3 * k + 0)} (omega arith)) (ap w {x = p + 3 * k + 1} {y = p + (3 * k + 1)} (omega arith))
       (ap w {x = p + 3 * k + 2} {y = p + (3 * k + 2)} (omega arith))
-      ∙ sym (listed-three (λ i. w (p + (3 * k + i))))
+      ∙ sym (build-three (λ i. w (p + (3 * k + i))))
 
-  pub uses-read : (p : ℕ) → usesWords (usesFrom w p) ≡ listed (λ j. w (p + j)) 96
+  pub uses-read : (p : ℕ) → usesWords (usesFrom w p) ≡ build (λ j. w (p + j)) 96
   uses-read p =
-      joined-same (λ k. useWords (getD (usesFrom w p) k noUse)) (λ k. listed (λ i. w (p + (3 * k + i))) 3) 32
-      (λ k h. ap useWords (listed-at (useAt w p) 32 k noUse h) ∙ block p k)
+      joined-same (λ k. useWords (getD (usesFrom w p) k noUse)) (λ k. build (λ i. w (p + (3 * k + i))) 3) 32
+      (λ k h. ap useWords (build-at (useAt w p) 32 k noUse h) ∙ block p k)
       ∙ joined-blocks (λ j. w (p + j)) 3 32
 
-  jobs-read : ((k : ℕ) → k < 16 → w (6 + 3 * k) ≤ 1) → jobsWords (jobsFrom w) ≡ listed (λ j. w (4 + j)) 48
+  jobs-read : ((k : ℕ) → k < 16 → w (6 + 3 * k) ≤ 1) → jobsWords (jobsFrom w) ≡ build (λ j. w (4 + j)) 48
   jobs-read marks =
-      joined-same (λ k. jobWords (getD (jobsFrom w) k noJob)) (λ k. listed (λ i. w (4 + (3 * k + i))) 3) 16
-      (λ k h. ap jobWords (listed-at (jobAt w) 16 k noJob h) ∙ three refl refl (mark-back (w (4 + 3 * k + 2)) (small k h)) ∙ block 4 k)
+      joined-same (λ k. jobWords (getD (jobsFrom w) k noJob)) (λ k. build (λ i. w (4 + (3 * k + i))) 3) 16
+      (λ k h. ap jobWords (build-at (jobAt w) 16 k noJob h) ∙ three refl refl (mark-back (w (4 + 3 * k + 2)) (small k h)) ∙ block 4 k)
       ∙ joined-blocks (λ j. w (4 + j)) 3 16
     where
       small : (k : ℕ) → k < 16 → w (4 + 3 * k + 2) ≤ 1
       small k h = let e : w (6 + 3 * k) ≡ w (4 + 3 * k + 2) = ap w (omega arith) in omega (arith, e, marks k h)
 
-  line-read : (k : ℕ) → w (52 + 97 * k) ≤ 4294967295 → lineWords (lineAt w k) ≡ listed (λ i. w (52 + (97 * k + i))) 97
+  line-read : (k : ℕ) → w (52 + 97 * k) ≤ 4294967295 → lineWords (lineAt w k) ≡ build (λ i. w (52 + (97 * k + i))) 97
   line-read k h =
       ap₂ (λ (a : ℕ) (l : List ℕ). a ∷ l)
       (counted-is (w (52 + 97 * k)) h ∙ ap w {x = 52 + 97 * k} {y = 52 + (97 * k + 0)} (omega arith))
       (uses-read (52 + 97 * k + 1)
-      ∙ listed-same (λ j. w (52 + 97 * k + 1 + j)) (λ j. w (52 + (97 * k + (1 + j)))) 96 (λ j l. ap w (omega arith)))
-      ∙ ap (λ (l : List ℕ). l ++ listed (λ j. w (52 + (97 * k + (1 + j)))) 96) (sym (listed-one (λ i. w (52 + (97 * k + i)))))
-      ∙ sym (listed-add (λ i. w (52 + (97 * k + i))) 1 96)
+      ∙ build-same (λ j. w (52 + 97 * k + 1 + j)) (λ j. w (52 + (97 * k + (1 + j)))) 96 (λ j l. ap w (omega arith)))
+      ∙ ap (λ (l : List ℕ). l ++ build (λ j. w (52 + (97 * k + (1 + j)))) 96) (sym (build-one (λ i. w (52 + (97 * k + i)))))
+      ∙ sym (build-add (λ i. w (52 + (97 * k + i))) 1 96)
 
-  pub lines-read : ((k : ℕ) → k < 16 → w (52 + 97 * k) ≤ 4294967295) → linesWords (linesFrom w) ≡ listed (λ j. w (52 + j)) 1552
+  pub lines-read : ((k : ℕ) → k < 16 → w (52 + 97 * k) ≤ 4294967295) → linesWords (linesFrom w) ≡ build (λ j. w (52 + j)) 1552
   lines-read h =
-      joined-same (λ k. lineWords (getD (linesFrom w) k noLine)) (λ k. listed (λ i. w (52 + (97 * k + i))) 97) 16
-      (λ k l. ap lineWords (listed-at (lineAt w) 16 k noLine l) ∙ line-read k (h k l))
+      joined-same (λ k. lineWords (getD (linesFrom w) k noLine)) (λ k. build (λ i. w (52 + (97 * k + i))) 97) 16
+      (λ k l. ap lineWords (build-at (lineAt w) 16 k noLine l) ∙ line-read k (h k l))
       ∙ joined-blocks (λ j. w (52 + j)) 97 16
 
-  cells-read : cellsWords (cellsFrom w) ≡ listed (λ j. w (1604 + j)) 4225
-  cells-read = listed-same (λ k. getD (cellsFrom w) k 0) (λ j. w (1604 + j)) 4225 (λ k h. listed-at (cellAt w) 4225 k 0 h)
+  cells-read : cellsWords (cellsFrom w) ≡ build (λ j. w (1604 + j)) 4225
+  cells-read = build-same (λ k. getD (cellsFrom w) k 0) (λ j. w (1604 + j)) 4225 (λ k h. build-at (cellAt w) 4225 k 0 h)
 
   head-read :
-      ((k : ℕ) → k < 16 → w (6 + 3 * k) ≤ 1) → ((k : ℕ) → w k ≤ 4294967295) → headWords (boardFrom w) ≡ listed w 4
-  head-read marks h = rw (marks-hold w marks, counted-is (w 3) (h 3)) (sym (listed-four w))
+      ((k : ℕ) → k < 16 → w (6 + 3 * k) ≤ 1) → ((k : ℕ) → w k ≤ 4294967295) → headWords (boardFrom w) ≡ build w 4
+  head-read marks h = rw (marks-hold w marks, counted-is (w 3) (h 3)) (sym (build-four w))
 
   -- the words of the frame, in three parts
-  parts : listed w 1604 ≡ listed w 4 ++ (listed (λ j. w (4 + j)) 48 ++ listed (λ j. w (52 + j)) 1552)
+  parts : build w 1604 ≡ build w 4 ++ (build (λ j. w (4 + j)) 48 ++ build (λ j. w (52 + j)) 1552)
   parts =
-      listed-add w 4 1600
-      ∙ ap (λ (l : List ℕ). listed w 4 ++ l)
-      (listed-add (λ j. w (4 + j)) 48 1552
-      ∙ ap (λ (l : List ℕ). listed (λ j. w (4 + j)) 48 ++ l)
-      (listed-same (λ j. w (4 + (48 + j))) (λ j. w (52 + j)) 1552 (λ j l. ap w (omega arith))))
+      build-add w 4 1600
+      ∙ ap (λ (l : List ℕ). build w 4 ++ l)
+      (build-add (λ j. w (4 + j)) 48 1552
+      ∙ ap (λ (l : List ℕ). build (λ j. w (4 + j)) 48 ++ l)
+      (build-same (λ j. w (4 + (48 + j))) (λ j. w (52 + j)) 1552 (λ j l. ap w (omega arith))))
 
   frame-read :
-      ((k : ℕ) → k < 16 → w (6 + 3 * k) ≤ 1) → ((k : ℕ) → w k ≤ 4294967295) → frameWords (boardFrom w) ≡ listed w 1604
+      ((k : ℕ) → k < 16 → w (6 + 3 * k) ≤ 1) → ((k : ℕ) → w k ≤ 4294967295) → frameWords (boardFrom w) ≡ build w 1604
   unfolding frameWords
   frame-read marks h =
       ap₂ (λ (l m : List ℕ). l ++ m) (head-read marks h) (ap₂ (λ (l m : List ℕ). l ++ m) (jobs-read marks) (lines-read (λ k l. h (52 + 97 * k)))) ∙ sym parts
 
-  all-read : ((k : ℕ) → k < 16 → w (6 + 3 * k) ≤ 1) → ((k : ℕ) → w k ≤ 4294967295) → wordsOf (boardFrom w) ≡ listed w 5829
+  all-read : ((k : ℕ) → k < 16 → w (6 + 3 * k) ≤ 1) → ((k : ℕ) → w k ≤ 4294967295) → wordsOf (boardFrom w) ≡ build w 5829
   unfolding wordsOf
-  all-read marks h = ap₂ (λ (l m : List ℕ). l ++ m) (frame-read marks h) cells-read ∙ sym (listed-add w 1604 4225)
+  all-read marks h = ap₂ (λ (l m : List ℕ). l ++ m) (frame-read marks h) cells-read ∙ sym (build-add w 1604 4225)
 
 pub words-back :
     (l : List ℕ) → length l ≡ 5829 → ((k : ℕ) → k < 16 → wordIn l (6 + 3 * k) ≤ 1) → ((k : ℕ) → wordIn l k ≤ 4294967295)
     → wordsOf (boardIn l) ≡ l
-words-back l e marks h = all-read (wordIn l) marks h ∙ listed-back l 5829 0 e
+words-back l e marks h = all-read (wordIn l) marks h ∙ build-back l 5829 0 e

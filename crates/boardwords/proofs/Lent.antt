@@ -15,7 +15,7 @@ use lib.Seq.{take-all, ext-getD, getD-drop, getD-take}
 use Rattle.boardwords.specs.declared.Board.{Board}
 use Rattle.boardwords.specs.Words.{wordIn, cellAt, cellsFrom}
 use Rattle.boardwords.specs.Codec.{frameWords, wordsOf, put}
-use Rattle.boardwords.proofs.Listed.{length-listed, listed-at, listed-back}
+use Rattle.lists.proofs.Build.{build-length, build-at, build-back}
 use Rattle.boardwords.proofs.Put.{length-frame, put-front}
 
 abbrev pub lentTable : List ℕ → List ℕ
@@ -39,8 +39,8 @@ module _ (w : List ℕ) (len : length w ≡ 5829) where
   pub cells-lent : lentTable w ≡ cellsFrom (wordIn w)
   cells-lent =
       table-is
-      ∙ ext-getD 0 (drop 1604 w) (cellsFrom (wordIn w)) (omega (arith, length-drop 1604 w, length-listed (cellAt (wordIn w)) 4225))
-      (λ k h. getD-drop 1604 w k 0 ∙ sym (listed-at (cellAt (wordIn w)) 4225 k 0 (omega (arith, length-drop 1604 w))))
+      ∙ ext-getD 0 (drop 1604 w) (cellsFrom (wordIn w)) (omega (arith, length-drop 1604 w, build-length (cellAt (wordIn w)) 4225))
+      (λ k h. getD-drop 1604 w k 0 ∙ sym (build-at (cellAt (wordIn w)) 4225 k 0 (omega (arith, length-drop 1604 w))))
 
   pub length-lent : length (lentTable w) ≡ 4225
   length-lent = ap length table-is ∙ omega (arith, length-drop 1604 w)
@@ -59,7 +59,7 @@ module _ (w : List ℕ) (len : length w ≡ 5829) where
     written b e size =
         ap (λ (l : List ℕ). put l 0 (frameWords b)) (with-is t)
         ∙ (put-front (take 1604 w) t (frameWords b) (front ∙ sym (length-frame b))
-        ∙ ap (λ (l : List ℕ). frameWords b ++ l) (sym e ∙ sym (listed-back (b .gaps) 4225 0 (ap length e ∙ cells-many size))))
+        ∙ ap (λ (l : List ℕ). frameWords b ++ l) (sym e ∙ sym (build-back (b .gaps) 4225 0 (ap length e ∙ cells-many size))))
 
     pub unwritten : t ≡ lentTable w → wordsWith w t ≡ w
     unwritten e = with-is t ∙ (ap (λ (l : List ℕ). take 1604 w ++ l) (e ∙ table-is) ∙ take-append-drop 1604 w)

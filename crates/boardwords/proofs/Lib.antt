@@ -1,4 +1,4 @@
-pub mod Listed
+pub mod Filled
 pub mod Blocks
 pub mod Put
 pub mod Boards

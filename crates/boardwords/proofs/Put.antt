@@ -17,8 +17,8 @@ use lib.Seq.{take-all, set-append-left, getD-set-other}
 use native.Mathlib.Decide.{decLt}
 use native.Mathlib.Numerals.{add-one}
 use native.Mathlib.Omega.{arith}
-use Rattle.boardwords.specs.Words.{listed}
-use Rattle.boardwords.proofs.Listed.{length-listed}
+use Rattle.lists.specs.Loops.{build}
+use Rattle.lists.proofs.Build.{build-length}
 use Rattle.plain.specs.declared.Job.{Job}
 use Rattle.lines.specs.declared.Line.{Line}
 use Rattle.lines.specs.Held.{noJob, noLine}
@@ -64,8 +64,8 @@ pub put-none : (f : ℕ → List ℕ) (w : List ℕ) (at : ℕ) → w ≡ put w 
 unfolding joined put
 put-none f w at = refl
 
-pub put-no-cell : (f : ℕ → ℕ) (w : List ℕ) (at : ℕ) → w ≡ put w at (listed f 0)
-unfolding listed put
+pub put-no-cell : (f : ℕ → ℕ) (w : List ℕ) (at : ℕ) → w ≡ put w at (build f 0)
+unfolding build put
 put-no-cell f w at = refl
 
 pub put-turn :
@@ -85,12 +85,12 @@ put-line-turn ls w₀ at k w x is new =
     put-turn (λ i. lineWords (getD ls i noLine)) 97 (λ i. length-line (getD ls i noLine)) w₀ at k (at + 97 * k) w x is refl new
 
 pub put-cell :
-    (f : ℕ → ℕ) (w₀ : List ℕ) (at k : ℕ) (w : List ℕ) (v : ℕ) → w ≡ put w₀ at (listed f k) → v ≡ f k
-    → set w (at + k) v ≡ put w₀ at (listed f (k + 1))
-unfolding listed put
+    (f : ℕ → ℕ) (w₀ : List ℕ) (at k : ℕ) (w : List ℕ) (v : ℕ) → w ≡ put w₀ at (build f k) → v ≡ f k
+    → set w (at + k) v ≡ put w₀ at (build f (k + 1))
+unfolding build put
 put-cell f w₀ at k w v is new =
     rw (add-one k, is, new)
-    (sym (put-append w₀ at (listed f k) (f k ∷ []) (at + k) (ap (λ (i : ℕ). at + i) (sym (length-listed f k)))))
+    (sym (put-append w₀ at (build f k) (f k ∷ []) (at + k) (ap (λ (i : ℕ). at + i) (sym (build-length f k)))))
 
 -- a word before those that are written, or behind them, stays
 pub put-below : (w : List ℕ) (at : ℕ) (l : List ℕ) (k : ℕ) → k < at → getD (put w at l) k 0 ≡ getD w k 0
@@ -158,7 +158,7 @@ length-frame b =
 pub length-words : (b : Board) → length (wordsOf b) ≡ 5829
 unfolding wordsOf
 length-words b =
-    length-append (frameWords b) (cellsWords (b .gaps)) ∙ omega (arith, length-frame b, length-listed (λ k. getD (b .gaps) k 0) 4225)
+    length-append (frameWords b) (cellsWords (b .gaps)) ∙ omega (arith, length-frame b, build-length (λ k. getD (b .gaps) k 0) 4225)
 
 -- head, jobs and lines written one behind the other
 pub put-frame :

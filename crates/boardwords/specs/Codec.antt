@@ -20,7 +20,7 @@ use Rattle.plain.specs.Plain.{noUse}
 use Rattle.lines.specs.declared.Line.{Line}
 use Rattle.lines.specs.Held.{noJob, noLine}
 use Rattle.boardwords.specs.declared.Board.{Board}
-use Rattle.boardwords.specs.Words.{listed}
+use Rattle.lists.specs.Loops.{build}
 
 unfoldable pub joined : (ℕ → List ℕ) → ℕ → List ℕ
 joined f zero = []
@@ -51,7 +51,7 @@ abbrev pub linesWords : List Line → List ℕ
 linesWords ls = joined (λ k. lineWords (getD ls k noLine)) 16
 
 abbrev pub cellsWords : List ℕ → List ℕ
-cellsWords l = listed (λ k. getD l k 0) 4225
+cellsWords l = build (λ k. getD l k 0) 4225
 
 abbrev pub headWords : Board → List ℕ
 headWords b = b .horizon ∷ b .lead ∷ b .clock ∷ counted (b .jobs .count) ∷ []

@@ -4,7 +4,6 @@
 -- Words are a function from a word's number, so that a part of the board is that part of any words.
 --   wordAt s k         word k of the bytes s
 --   wordIn l k         word k of the list l; 0 past its end
---   listed f n         f 0, .., f (n - 1)
 --   jobFrom w at       the job, use, line whose first word is number `at`
 --   jobAt w k          job k, line k, cell k; use k of the line whose uses begin at word `at`
 --   jobsFrom w         all of them;  usesFrom, linesFrom, cellsFrom;  heldJobs w: the jobs with their count
@@ -12,9 +11,9 @@
 --   boardFrom w        the board of these words
 --   boardIn l          the board of a list of words
 --   decoded s          the board of the bytes s, and whether they are as many as a board has; zeros where they are not
-use Prim.Native.Nat.{ℕ, zero, suc, _+_, _*_}
+use Prim.Native.Nat.{ℕ, _+_, _*_}
 use mathlib.Core.Bool.{Bool, true, false, cond, _||_}
-use mathlib.Core.List.{List, [], _∷_, _++_}
+use mathlib.Core.List.{List}
 use lib.ListN.{length, getD}
 use lib.Dec.{eqb, leb}
 use Rattle.words.specs.Word.{word}
@@ -22,7 +21,7 @@ use Rattle.plain.specs.declared.Job.{Job}
 use Rattle.plain.specs.declared.Use.{Use}
 use Rattle.lines.specs.declared.Jobs.{Jobs}
 use Rattle.lines.specs.declared.Line.{Line}
-use Rattle.lists.specs.Loops.{allBelow}
+use Rattle.lists.specs.Loops.{build, allBelow}
 use Rattle.boardwords.specs.declared.Board.{Board}
 use Rattle.boardwords.specs.declared.Decoded.{Decoded}
 
@@ -38,10 +37,6 @@ wordIn l k = getD l k 0
 abbrev pub zeros : Words
 zeros k = 0
 
-unfoldable pub listed : {A : Type 0} → (ℕ → A) → ℕ → List A
-listed f zero = []
-listed f (suc n) = listed f n ++ (f n ∷ [])
-
 -- a mark of 1 is sent, 0 unsent; see `boardFrom` for any other
 abbrev pub jobFrom : Words → ℕ → Job
 jobFrom w at = record { points = w at; batch = w (at + 1); sent = eqb (w (at + 2)) 1 }
@@ -50,7 +45,7 @@ abbrev pub jobAt : Words → ℕ → Job
 jobAt w k = jobFrom w (4 + 3 * k)
 
 abbrev pub jobsFrom : Words → List Job
-jobsFrom w = listed (jobAt w) 16
+jobsFrom w = build (jobAt w) 16
 
 abbrev pub heldJobs : Words → Jobs
 heldJobs w = record { count = w 3; jobs = jobsFrom w }
@@ -62,7 +57,7 @@ abbrev pub useAt : Words → ℕ → ℕ → Use
 useAt w at k = useFrom w (at + 3 * k)
 
 abbrev pub usesFrom : Words → ℕ → List Use
-usesFrom w at = listed (useAt w at) 32
+usesFrom w at = build (useAt w at) 32
 
 abbrev pub lineFrom : Words → ℕ → Line
 lineFrom w at = record { count = w at; uses = usesFrom w (at + 1) }
@@ -71,13 +66,13 @@ abbrev pub lineAt : Words → ℕ → Line
 lineAt w k = lineFrom w (52 + 97 * k)
 
 abbrev pub linesFrom : Words → List Line
-linesFrom w = listed (lineAt w) 16
+linesFrom w = build (lineAt w) 16
 
 abbrev pub cellAt : Words → ℕ → ℕ
 cellAt w k = w (1604 + k)
 
 abbrev pub cellsFrom : Words → List ℕ
-cellsFrom w = listed (cellAt w) 4225
+cellsFrom w = build (cellAt w) 4225
 
 unfoldable pub marked : ℕ → ℕ → ℕ → Bool
 marked c k m = leb c k || leb m 1

@@ -18,7 +18,8 @@ pub use writing::put_use;
 pub use writing::write_board;
 ghost use mathlib.Core.Path.{_≡_};
 ghost use lib.ListN.{length};
-ghost use Rattle.boardwords.specs.Words.{wordAt, listed, decoded};
+ghost use Rattle.lists.specs.Loops.{build};
+ghost use Rattle.boardwords.specs.Words.{wordAt, decoded};
 
 // The jobs under way, the lines of their uses, and the gap table: cell (i, j) at 65 i + j holds the gap from i to j plus the bias.
 pub struct Board {
@@ -44,7 +45,7 @@ pub struct Decoded {
 
 fn words_in(s: &[u8]) -> [u32; 5829]
     requires { ⌜ length (now s) ≡ 23316 ⌝ }
-    ensures { λ r. ⌜ r ≡ listed (wordAt (now (s .entry))) 5829 ⌝ }
+    ensures { λ r. ⌜ r ≡ build (wordAt (now (s .entry))) 5829 ⌝ }
 {
     let mut next = [0u32; 5829];
     for k in 0..5829 {

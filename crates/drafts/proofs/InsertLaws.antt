@@ -21,7 +21,7 @@ use Rattle.lines.proofs.Padded.{length-padded, padded-at}
 use Rattle.lines.proofs.LineLaws.{length-inserted}
 use Rattle.boardwords.specs.Words.{wordIn, useAt, usesFrom, lineFrom}
 use Rattle.boardwords.specs.Codec.{useWords, put}
-use Rattle.boardwords.proofs.Listed.{length-listed, listed-at}
+use Rattle.lists.proofs.Build.{build-length, build-at}
 use Rattle.boardwords.proofs.Put.{put-length}
 use Rattle.drafts.specs.Beside.{Tidy, Beside}
 use Rattle.boardwords.proofs.Back.{same-use}
@@ -189,7 +189,7 @@ module _
 
     old-is : (i : ℕ) → i < 32 → old-use i ≡ getD held i noUse
     old-is i h =
-        sym (listed-at old-use 32 i noUse h)
+        sym (build-at old-use 32 i noUse h)
         ∙ ap (λ (q : Line). getD (q .uses) i noUse) tidy
         ∙ padded-at 32 noUse held i h
 
@@ -221,8 +221,8 @@ module _
     line-inserted =
         let l : List Use = inserted place u held in
         let count-is : wordIn (set P at (n + 1)) at ≡ length l = word-count ∙ omega (arith, length-inserted place u held, size) in
-        let len = length-listed now-use 32 in
+        let len = build-length now-use 32 in
         let uses-are : usesFrom (wordIn (set P at (n + 1))) (at + 1) ≡ padded 32 noUse l =
         ext-getD noUse (usesFrom (wordIn (set P at (n + 1))) (at + 1)) (padded 32 noUse l) (len ∙ sym (length-padded 32 noUse l))
-        (λ k h. listed-at now-use 32 k noUse (omega (arith, len)) ∙ new-is k (omega (arith, len)) ∙ sym (padded-at 32 noUse l k (omega (arith, len)))) in
+        (λ k h. build-at now-use 32 k noUse (omega (arith, len)) ∙ new-is k (omega (arith, len)) ∙ sym (padded-at 32 noUse l k (omega (arith, len)))) in
         rw (count-is, uses-are) refl

@@ -9,7 +9,7 @@ use native.Mathlib.Omega.{arith}
 use Rattle.lines.specs.declared.Line.{Line}
 use Rattle.lines.specs.Held.{noLine}
 use Rattle.boardwords.specs.Words.{Words, lineAt, linesFrom}
-use Rattle.boardwords.proofs.Listed.{length-listed}
+use Rattle.lists.proofs.Build.{build-length}
 use Rattle.boardwords.proofs.Boards.{line-of, same-line}
 use Rattle.drafts.specs.Beside.{Beside}
 
@@ -28,8 +28,8 @@ module _ (v w : Words) (r : ℕ) (h : r < 16) (beside : Beside (52 + 97 * r) v w
 
   pub lines-set : (new : Line) → lineAt w r ≡ new → linesFrom w ≡ set (linesFrom v) r new
   lines-set new e =
-      let n : length (linesFrom w) ≡ 16 = length-listed (lineAt w) 16 in
-      let m : length (linesFrom v) ≡ 16 = length-listed (lineAt v) 16 in
+      let n : length (linesFrom w) ≡ 16 = build-length (lineAt w) 16 in
+      let m : length (linesFrom v) ≡ 16 = build-length (lineAt v) 16 in
       ext-getD noLine (linesFrom w) (set (linesFrom v) r new) (n ∙ sym (length-set (linesFrom v) r new ∙ m))
       (λ k l. line-of w k (omega arith) ∙ at k (omega arith) (decLt k r) (decLt r k))
     where
@@ -38,7 +38,7 @@ module _ (v w : Words) (r : ℕ) (h : r < 16) (beside : Beside (52 + 97 * r) v w
 
       here : (k : ℕ) → k ≡ r → lineAt w k ≡ getD (set (linesFrom v) r new) k noLine
       here k s =
-          rw s (e ∙ sym (getD-set-same (linesFrom v) r new noLine (omega (arith, length-listed (lineAt v) 16, h))))
+          rw s (e ∙ sym (getD-set-same (linesFrom v) r new noLine (omega (arith, build-length (lineAt v) 16, h))))
 
       at : (k : ℕ) → k < 16 → Dec (k < r) → Dec (r < k) → lineAt w k ≡ getD (set (linesFrom v) r new) k noLine
       at k l (yes lt) d = same k l (λ s. omega arith)

@@ -14,7 +14,8 @@ use Prim.Native.Nat.{ℕ, _+_, _*_, _%_, _≤_, _<_}
 use native.Mathlib.Omega.{arith}
 use lib.ListN.{length, getD}
 use Rattle.plain.specs.declared.Rule.{Rule}
-use Rattle.lists.proofs.Rewritten.{build-at, rewritten-length, rewritten-in, rewritten-below, rewritten-from, rewritten-is, ahead}
+use Rattle.lists.proofs.Build.{build-at}
+use Rattle.lists.proofs.Rewritten.{rewritten-length, rewritten-in, rewritten-below, rewritten-from, rewritten-is, ahead}
 use Rattle.lists.specs.Loops.{rewritten}
 use Rattle.stn.proofs.Add.{add-closed}
 use Rattle.stn.proofs.Agree.{agree-closed}
@@ -47,7 +48,7 @@ module _
   via = still late ∙ ap (λ (j : ℕ). cell l a j) is-late
 
   onward : (b : ℕ) → b < n → getD row b 0 ≡ cell l (r .early) b
-  onward b hb = rw (copy, is-early) (build-at (λ j. cell l (r .early) j) 65 b (omega arith))
+  onward b hb = rw (copy, is-early) (build-at (λ j. cell l (r .early) j) 65 b 0 (omega arith))
 
   relaxed-next :
       (x : List ℕ) → x ≡ rewritten (relaxed m row (cell m a late + r .slack) (bias + r .more)) m (a * 65) (a * 65 + n)

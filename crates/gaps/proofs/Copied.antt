@@ -7,7 +7,8 @@ use mathlib.Core.Path.{_≡_, refl, sym, _∙_, ap}
 use Prim.Native.Nat.{ℕ, _<_}
 use native.Mathlib.Omega.{arith}
 use lib.ListN.{length, getD, List·getD-eq-default}
-use Rattle.lists.proofs.Rewritten.{build-at, rewritten-is}
+use Rattle.lists.proofs.Build.{build-at}
+use Rattle.lists.proofs.Rewritten.{rewritten-is}
 use Rattle.lists.specs.Loops.{build, rewritten}
 
 pub copied-whole : (l m x : List ℕ) (n : ℕ) → length l ≡ n → length m ≡ n → x ≡ rewritten (λ k. getD m k 0) l 0 n → x ≡ m
@@ -23,4 +24,4 @@ put-back l old x q same e =
     e ∙ sym (rewritten-is (λ k. getD old k 0) l l 0 q refl (λ k lo hi h. sym (same k hi)) (λ k h. refl) (λ k h. refl))
 
 pub few-kept : (l old : List ℕ) (n : ℕ) → old ≡ build (λ k. getD l k 0) n → (k : ℕ) → k < n → getD old k 0 ≡ getD l k 0
-few-kept l old n is k h = ap (λ (w : List ℕ). getD w k 0) is ∙ build-at (λ k. getD l k 0) n k h
+few-kept l old n is k h = ap (λ (w : List ℕ). getD w k 0) is ∙ build-at (λ k. getD l k 0) n k 0 h

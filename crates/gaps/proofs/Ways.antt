@@ -18,7 +18,7 @@ use lib.Dec.{leb}
 use lib.ListN.{getD, replicate}
 use borrow.Author.Tests.{lt-ltb, le-ltb, le-leb, lt-leb}
 use Rattle.lists.specs.Loops.{build, rewritten, allBelow}
-use Rattle.lists.proofs.Rewritten.{build-at}
+use Rattle.lists.proofs.Build.{build-at}
 use Rattle.lists.proofs.AllBelow.{both-true, allBelow-to, allBelow-of, allBelow-next}
 use Rattle.stn.specs.Table.{bias}
 use Rattle.gaps.specs.Cells.{cell}
@@ -104,7 +104,7 @@ few-turn l n i j k all x few ij ik jk small before ex =
     )
 
 pub lift-at : (lifts : List ℕ) (n k : ℕ) → lifts ≡ build lift 32 → n ≤ 16 → k < 16 → getD lifts (16 - n + k) 0 ≡ lift (16 - n + k)
-lift-at lifts n k is few small = ap (λ (r : List ℕ). getD r (16 - n + k) 0) is ∙ build-at lift 32 (16 - n + k) (omega arith)
+lift-at lifts n k is few small = ap (λ (r : List ℕ). getD r (16 - n + k) 0) is ∙ build-at lift 32 (16 - n + k) 0 (omega arith)
 
 -- what lifts 16 live cells written over the bit
 pub lift-row : rewritten (λ i. top - bias) (replicate 32 top) 0 16 ≡ build lift 32

@@ -7,14 +7,14 @@ use mathlib.Core.Path.{_≡_, sym, _∙_, ap}
 use mathlib.Core.List.{List, []}
 use native.Mathlib.Omega.{arith}
 use lib.ListN.{length, getD}
-use Rattle.lists.specs.Loops.{rewritten}
+use Rattle.lists.specs.Loops.{build, rewritten}
 use Rattle.lists.proofs.Rewritten.{rewritten-length, rewritten-in, rewritten-below, rewritten-from}
 use Rattle.lines.specs.declared.Line.{Line}
 use Rattle.lines.specs.Held.{noLine}
 use Rattle.boardwords.specs.declared.Board.{Board}
 use Rattle.boardwords.specs.Words.{wordIn, linesFrom, lineAt}
 use Rattle.boardwords.specs.Codec.{linesWords, put, wordsOf}
-use Rattle.boardwords.proofs.Listed.{listed-at}
+use Rattle.lists.proofs.Build.{build-at}
 use Rattle.boardwords.proofs.Put.{length-lines}
 use Rattle.boardwords.proofs.Boards.{same-lines}
 use Rattle.boardwords.proofs.Inverse.{lines-read}
@@ -31,7 +31,7 @@ module _ (u v x : List ℕ) (room : 1604 ≤ length u) (e : x ≡ rewritten (wor
   pub copied-put : ((k : ℕ) → k < 16 → getD (linesFrom (wordIn v)) k noLine .count ≤ 32) → x ≡ put u 52 (linesWords (linesFrom (wordIn v)))
   copied-put few =
       put-is u x 52 ws (ap length e ∙ rewritten-length (wordIn v) u 52 1604) (omega (arith, many))
-      (λ i h. word-is (52 + i) (omega arith) (omega (arith, many)) ∙ sym (ap (λ (y : List ℕ). getD y i 0) read ∙ listed-at (λ j. wordIn v (52 + j)) 1552 i 0 (omega (arith, many))))
+      (λ i h. word-is (52 + i) (omega arith) (omega (arith, many)) ∙ sym (ap (λ (y : List ℕ). getD y i 0) read ∙ build-at (λ j. wordIn v (52 + j)) 1552 i 0 (omega (arith, many))))
       (λ k h. ap (λ (y : List ℕ). getD y k 0) e ∙ rewritten-below (wordIn v) u 52 1604 k h)
       (λ k h. ap (λ (y : List ℕ). getD y k 0) e ∙ rewritten-from (wordIn v) u 52 1604 k (omega (arith, many)))
     where
@@ -42,9 +42,9 @@ module _ (u v x : List ℕ) (room : 1604 ≤ length u) (e : x ≡ rewritten (wor
       many = length-lines (linesFrom (wordIn v))
 
       small : (k : ℕ) → k < 16 → wordIn v (52 + 97 * k) ≤ 4294967295
-      small k h = let count = ap (λ (q : Line). q .count) (listed-at (lineAt (wordIn v)) 16 k noLine h) in omega (arith, few k h, count)
+      small k h = let count = ap (λ (q : Line). q .count) (build-at (lineAt (wordIn v)) 16 k noLine h) in omega (arith, few k h, count)
 
-      read : linesWords (linesFrom (wordIn v)) ≡ Rattle.boardwords.specs.Words.listed (λ j. wordIn v (52 + j)) 1552
+      read : linesWords (linesFrom (wordIn v)) ≡ build (λ j. wordIn v (52 + j)) 1552
       read = lines-read (wordIn v) small
 
 pub written-lines :

@@ -21,7 +21,7 @@ use Rattle.lists.specs.Loops.{rewritten}
 use Rattle.lists.proofs.Rewritten.{rewritten-length, rewritten-in, rewritten-below, rewritten-from}
 use Rattle.boardwords.specs.Words.{Words, wordIn, useFrom, useAt, lineFrom, lineAt, linesFrom}
 use Rattle.boardwords.specs.Codec.{joined, lineWords, put}
-use Rattle.boardwords.proofs.Listed.{length-listed, listed-at}
+use Rattle.lists.proofs.Build.{build-length, build-at}
 use Rattle.boardwords.proofs.Boards.{held-size, held-use, same-line}
 use Rattle.boardwords.proofs.Blocks.{length-joined}
 use Rattle.boardwords.proofs.Put.{put-line-turn, length-line, put-from}
@@ -95,8 +95,8 @@ module _ (h : Line → Line) (w₀ : List ℕ) where
 
   changed-at : (k : ℕ) → k < 16 → getD changed k noLine ≡ h (lineAt (wordIn w₀) k)
   changed-at k l =
-      map-at h (linesFrom (wordIn w₀)) k noLine noLine (omega (arith, length-listed (lineAt (wordIn w₀)) 16))
-      ∙ ap h (listed-at (lineAt (wordIn w₀)) 16 k noLine l)
+      map-at h (linesFrom (wordIn w₀)) k noLine noLine (omega (arith, build-length (lineAt (wordIn w₀)) 16))
+      ∙ ap h (build-at (lineAt (wordIn w₀)) 16 k noLine l)
 
   -- line k is still what it was
   pub lines-ahead : (w : List ℕ) (k : ℕ) → w ≡ turned k → lineAt (wordIn w) k ≡ lineAt (wordIn w₀) k
@@ -120,7 +120,7 @@ module _ (h : Line → Line) (w₀ : List ℕ) where
   lines-few w k is l few =
       let ahead : wordIn w (52 + 97 * k) ≡ wordIn w₀ (52 + 97 * k) = ap (λ (q : Line). q .count) (lines-ahead w k is) in
       let first : getD (linesFrom (wordIn w₀)) k noLine .count ≡ wordIn w₀ (52 + 97 * k) =
-      ap (λ (q : Line). q .count) (listed-at (lineAt (wordIn w₀)) 16 k noLine l) in
+      ap (λ (q : Line). q .count) (build-at (lineAt (wordIn w₀)) 16 k noLine l) in
       omega (arith, ahead, first, few k)
 
   pub lines-done : (w : List ℕ) (k : ℕ) (ls : List Line) → w ≡ turned k → k ≡ 16 → changed ≡ ls → w ≡ put w₀ 52 (joined (λ i. lineWords (getD ls i noLine)) 16)

@@ -14,9 +14,10 @@ use Rattle.plain.specs.Plain.{noUse}
 use Rattle.lines.specs.Held.{lineFrom as heldLine}
 use Rattle.lines.specs.Padded.{padded}
 use Rattle.lines.proofs.Padded.{length-padded, padded-at}
-use Rattle.boardwords.specs.Words.{wordIn, listed, useAt, usesFrom}
+use Rattle.lists.specs.Loops.{build}
+use Rattle.boardwords.specs.Words.{wordIn, useAt, usesFrom}
 use Rattle.boardwords.specs.Codec.{usesWords, lineWords, put}
-use Rattle.boardwords.proofs.Listed.{length-listed, listed-same, listed-at, listed-back}
+use Rattle.lists.proofs.Build.{build-length, build-same, build-at, build-back}
 use Rattle.boardwords.proofs.Put.{put-length, put-below, put-from}
 use Rattle.boardwords.proofs.Inverse.{counted-is, uses-read}
 
@@ -50,11 +51,11 @@ put-is w x at l e room inside below from =
 line-at :
     (x : List ℕ) (at : ℕ) (us : List Use) → length us ≤ 32 → wordIn x at ≡ length us
     → ((m : ℕ) → m < 32 → useAt (wordIn x) (at + 1) m ≡ getD us m noUse)
-    → lineWords (heldLine us) ≡ wordIn x at ∷ listed (λ j. wordIn x (at + 1 + j)) 96
+    → lineWords (heldLine us) ≡ wordIn x at ∷ build (λ j. wordIn x (at + 1 + j)) 96
 line-at x at us few count uses =
     let same : usesFrom (wordIn x) (at + 1) ≡ padded 32 noUse us =
-    listed-same (useAt (wordIn x) (at + 1)) (λ m. getD (padded 32 noUse us) m noUse) 32 (λ m h. uses m h ∙ sym (padded-at 32 noUse us m h))
-    ∙ listed-back (padded 32 noUse us) 32 noUse (length-padded 32 noUse us) in
+    build-same (useAt (wordIn x) (at + 1)) (λ m. getD (padded 32 noUse us) m noUse) 32 (λ m h. uses m h ∙ sym (padded-at 32 noUse us m h))
+    ∙ build-back (padded 32 noUse us) 32 noUse (length-padded 32 noUse us) in
     ap₂ (λ (a : ℕ) (l : List ℕ). a ∷ l) (counted-is (length us) (omega arith) ∙ sym count)
     (ap usesWords (sym same) ∙ uses-read (wordIn x) (at + 1))
 
@@ -69,12 +70,12 @@ line-put w x at us few e room count uses below from =
     f j = wordIn x (at + 1 + j)
 
     l : List ℕ
-    l = wordIn x at ∷ listed f 96
+    l = wordIn x at ∷ build f 96
 
     size : length l ≡ 97
-    size = ap suc (length-listed f 96)
+    size = ap suc (build-length f 96)
 
     inside : (i : ℕ) → i < length l → getD x (at + i) 0 ≡ getD l i 0
     inside zero h = ap (λ (j : ℕ). getD x j 0) {x = at + 0} {y = at} (omega arith)
     inside (suc i) h =
-        ap (λ (j : ℕ). getD x j 0) {x = at + suc i} {y = at + 1 + i} (omega arith) ∙ sym (listed-at f 96 i 0 (omega (arith, size)))
+        ap (λ (j : ℕ). getD x j 0) {x = at + suc i} {y = at + 1 + i} (omega arith) ∙ sym (build-at f 96 i 0 (omega (arith, size)))

@@ -18,7 +18,7 @@ use Rattle.lines.proofs.LeavingLaws.{few-stay, staying-append}
 use Rattle.lists.specs.Loops.{rewritten}
 use Rattle.boardwords.specs.Words.{wordIn, useFrom, useAt, usesFrom, lineFrom}
 use Rattle.boardwords.specs.Codec.{useWords, lineWords, put}
-use Rattle.boardwords.proofs.Listed.{length-listed, listed-at, past}
+use Rattle.lists.proofs.Build.{build-length, build-at, past}
 use Rattle.linewords.specs.Thinned.{Thinned}
 use Rattle.boardwords.proofs.Back.{same-use as use-of}
 use Rattle.boardwords.proofs.Boards.{held-size}
@@ -45,10 +45,10 @@ module _ (f m : ℕ) (w₀ : List ℕ) (at : ℕ) where
   left-more : (k : ℕ) → k < 32 → left (k + 1) ≡ left k ++ staying f m (useAt (wordIn w₀) at k ∷ [])
   left-more k h =
       let us : List Use = usesFrom (wordIn w₀) at in
-      let size : length us ≡ 32 = length-listed (useAt (wordIn w₀) at) 32 in
+      let size : length us ≡ 32 = build-length (useAt (wordIn w₀) at) 32 in
       ap left (add-one k)
       ∙ ap (staying f m) (take-suc us k noUse (omega arith))
-      ∙ ap (λ (u : Use). staying f m (take k us ++ (u ∷ []))) (listed-at (useAt (wordIn w₀) at) 32 k noUse h)
+      ∙ ap (λ (u : Use). staying f m (take k us ++ (u ∷ []))) (build-at (useAt (wordIn w₀) at) 32 k noUse h)
       ∙ staying-append f m (take k us) (useAt (wordIn w₀) at k ∷ [])
 
   -- the words x are w with the use v in place n

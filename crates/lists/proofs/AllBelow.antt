@@ -3,11 +3,11 @@
 --   allBelow-to, allBelow-of       what the flag says of each place, and the other way
 --   allBelow-passes, allBelow-fails   where a failed test ends the loop: one turn more, and a test that fails
 --   allBelow-part, allBelow-rest   the tests of m places from p on, kept by a flag of their own: where they fail, and where those before passed
---   allBelow-both                  two tests at each place
+--   allBelow-same                  the same test at each place;  allBelow-both: two tests at each
 --   allBelow-live                  only the places below n are tested
 --   both-true                      what two flags joined say;  pair-fails: of two places
 use mathlib.Core.Bool.{Bool, true, false, false≢true, _&&_, _||_}
-use mathlib.Core.Path.{_≡_, refl, sym, _∙_}
+use mathlib.Core.Path.{_≡_, refl, sym, _∙_, ap₂}
 use Prim.Native.Nat.{ℕ, zero, suc, _+_, _-_, _≤_, _<_}
 use native.Mathlib.Decide.{decLt}
 use native.Mathlib.Numerals.{add-one}
@@ -75,6 +75,11 @@ module _ (f g : ℕ → Bool) (p m : ℕ) (same : (k : ℕ) → k < m → g k �
       go : (all : Bool) → allBelow g m ≡ all → all ≡ allBelow f n
       go true e = sym (allBelow-of f n (λ k l. at e k l (decLt k p)))
       go false e = allBelow-part n (omega arith) e
+
+pub allBelow-same : (f g : ℕ → Bool) (n : ℕ) → ((k : ℕ) → k < n → f k ≡ g k) → allBelow f n ≡ allBelow g n
+unfolding allBelow
+allBelow-same f g zero e = refl
+allBelow-same f g (suc n) e = ap₂ _&&_ (allBelow-same f g n (λ k h. e k (omega arith))) (e n (omega arith))
 
 pub allBelow-both : (f g : ℕ → Bool) (n : ℕ) → allBelow (λ k. f k && g k) n ≡ (allBelow f n && allBelow g n)
 unfolding allBelow

@@ -1,3 +1,4 @@
+pub mod Build
 pub mod Rewritten
 pub mod AllBelow
 pub mod All

@@ -1,7 +1,6 @@
--- A list that was written to from p on and before q: the laws of `build` and `rewritten`. A loop starts with `rewritten-none`, makes its
+-- A list that was written to from p on and before q: the laws of `rewritten`. A loop starts with `rewritten-none`, makes its
 -- turn by `store` (or by `rewritten-more`, where a turn writes several places), reads what it has not reached yet by `ahead`, and ends
 -- with `done`.
---   build-length, build-at              the elements of a list that was filled;  build-past: 0 past its end
 --   rewritten-length, -in, -below, -from   the elements: f from p on and before q, those of l below p and from q on
 --   rewritten-is                        the list that has these elements is the rewritten one
 --   rewritten-none                      nothing is written yet
@@ -10,8 +9,8 @@
 --   rewritten-whole                     all places are written
 use mathlib.Core.Bool.{Bool, true, false, cond, _&&_}
 use mathlib.Core.List.{List}
-use mathlib.Core.Path.{_≡_, refl, sym, _∙_, ap}
-use Prim.Native.Nat.{ℕ, zero, suc, _+_, _≤_, _<_}
+use mathlib.Core.Path.{_≡_, refl, sym, _∙_}
+use Prim.Native.Nat.{ℕ, _+_, _≤_, _<_}
 use native.Mathlib.Decide.{decLt}
 use native.Mathlib.Omega.{arith}
 use lib.Dec.{leb, ltb}
@@ -19,20 +18,7 @@ use lib.ListN.{length, getD, set, length-set, List·getD-eq-default}
 use lib.Seq.{ext-getD, getD-set-same, getD-set-other}
 use borrow.Author.Tests.{lt-ltb, le-ltb, le-leb, lt-leb}
 use Rattle.lists.specs.Loops.{build, rewritten}
-
-pub build-length : (f : ℕ → ℕ) (n : ℕ) → length (build f n) ≡ n
-unfolding build
-build-length f zero = refl
-build-length f (suc n) = ap suc (build-length (λ k. f (suc k)) n)
-
-pub build-at : (f : ℕ → ℕ) (n k : ℕ) → k < n → getD (build f n) k 0 ≡ f k
-unfolding build
-build-at f zero k h = absurd (omega arith)
-build-at f (suc n) zero h = refl
-build-at f (suc n) (suc k) h = build-at (λ k. f (suc k)) n k (omega arith)
-
-pub build-past : (f : ℕ → ℕ) (n k : ℕ) → n ≤ k → getD (build f n) k 0 ≡ 0
-build-past f n k h = List·getD-eq-default (build f n) 0 {n = k} (omega (arith, build-length f n))
+use Rattle.lists.proofs.Build.{build-length, build-at, build-past}
 
 module _ (f : ℕ → ℕ) (l : List ℕ) (p q : ℕ) where
   pub rewritten-length : length (rewritten f l p q) ≡ length l
@@ -41,7 +27,7 @@ module _ (f : ℕ → ℕ) (l : List ℕ) (p q : ℕ) where
 
   pub rewritten-in : (k : ℕ) → p ≤ k → k < q → k < length l → getD (rewritten f l p q) k 0 ≡ f k
   unfolding rewritten
-  rewritten-in k lo hi h = build-at _ _ k h ∙ rw (le-leb p k lo, lt-ltb k q hi)
+  rewritten-in k lo hi h = build-at _ _ k 0 h ∙ rw (le-leb p k lo, lt-ltb k q hi)
 
   -- where nothing is written, inside the list and past its end
   rewritten-out : (k : ℕ) → (leb p k && ltb k q) ≡ false → getD (rewritten f l p q) k 0 ≡ getD l k 0
@@ -49,8 +35,8 @@ module _ (f : ℕ → ℕ) (l : List ℕ) (p q : ℕ) where
   rewritten-out k e = go (decLt k (length l))
     where
       go : Dec (k < length l) → getD (build (λ k. cond (leb p k && ltb k q) (f k) (getD l k 0)) (length l)) k 0 ≡ getD l k 0
-      go (yes h) = build-at _ _ k h ∙ rw e
-      go (no h) = build-past _ _ k (omega arith) ∙ sym (List·getD-eq-default l 0 {n = k} (omega arith))
+      go (yes h) = build-at _ _ k 0 h ∙ rw e
+      go (no h) = build-past _ _ k 0 (omega arith) ∙ sym (List·getD-eq-default l 0 {n = k} (omega arith))
 
   pub rewritten-below : (k : ℕ) → k < p → getD (rewritten f l p q) k 0 ≡ getD l k 0
   rewritten-below k h = rewritten-out k (rw (lt-leb p k h))
@@ -110,4 +96,4 @@ rewritten-whole f l n e =
     sym (ext-getD 0 (build f n) (rewritten f l 0 n) (build-length f n ∙ sym (rewritten-length f l 0 n ∙ e)) (λ k h. at k (omega (arith, build-length f n))))
   where
     at : (k : ℕ) → k < n → getD (build f n) k 0 ≡ getD (rewritten f l 0 n) k 0
-    at k h = build-at f n k h ∙ sym (rewritten-in f l 0 n k (omega arith) h (omega arith))
+    at k h = build-at f n k 0 h ∙ sym (rewritten-in f l 0 n k (omega arith) h (omega arith))

@@ -11,7 +11,7 @@ use Rattle.lines.specs.Held.{noLine}
 use Rattle.boardwords.specs.declared.Board.{Board}
 use Rattle.boardwords.specs.Words.{wordIn, boardIn, lineAt}
 use Rattle.boardwords.specs.Codec.{wordsOf, Arrays, Writable}
-use Rattle.boardwords.proofs.Listed.{length-listed, listed-at}
+use Rattle.lists.proofs.Build.{build-length, build-at}
 use Rattle.boardwords.proofs.Inverse.{counted-small}
 use Rattle.boardwords.proofs.Back.{board-back, written-count, written-line}
 use Rattle.sound.specs.Sound.{Sound, sound}
@@ -28,7 +28,7 @@ module _ (b : Board) (arrays : Arrays b) where
   read-writable s = (
     arrays,
     omega (arith, counted-small (b .jobs .count) 16 (omega (arith, s .jobs, written-count b)) (omega arith)),
-    (λ k h. let count = ap (λ (l : Line). l .count) (listed-at (lineAt (wordIn (wordsOf b))) 16 k noLine h) in
+    (λ k h. let count = ap (λ (l : Line). l .count) (build-at (lineAt (wordIn (wordsOf b))) 16 k noLine h) in
         omega (arith, counted-small (getD (b .lines) k noLine .count) 32 (omega (arith, s .lines k h, count, written-line b k h)) (omega arith))),
   )
 
@@ -37,6 +37,6 @@ module _ (b : Board) (arrays : Arrays b) where
     where
       go : (x : Bool) → sound (boardIn (wordsOf b)) ≡ x → (y : Bool) → sound b ≡ y → sound (boardIn (wordsOf b)) ≡ sound b
       go true e y q =
-          ap sound (board-back b (read-writable (sound-to (boardIn (wordsOf b)) (length-listed (lineAt (wordIn (wordsOf b))) 16) e)))
+          ap sound (board-back b (read-writable (sound-to (boardIn (wordsOf b)) (build-length (lineAt (wordIn (wordsOf b))) 16) e)))
       go false e true q = ap sound (board-of-sound q)
       go false e false q = e ∙ sym q

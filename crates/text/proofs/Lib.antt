@@ -1,4 +1,4 @@
-pub mod Below
+pub mod Counted
 pub mod Pairs
 pub mod Place
 pub mod Value

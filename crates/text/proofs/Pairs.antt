@@ -11,27 +11,28 @@ use lib.ListN.{getD, length, set, take}
 use lib.Seq.{take-suc-set}
 use lib.Dec.{leb}
 use borrow.Author.Tests.{le-leb, lt-leb}
-use Rattle.text.specs.Below.{allBelow}
+use Rattle.lists.specs.Loops.{allBelow}
+use Rattle.lists.proofs.Build.{build-more}
+use Rattle.lists.proofs.AllBelow.{allBelow-passes, allBelow-fails}
 use Rattle.text.specs.Hex.{byteAt, bytesTo, encodedTo, highAt, lowAt, pairAt, pairOf, pairsDecoded}
 use Rattle.text.specs.declared.hex.Decoded.the-variants.{BadDigit, Bytes}
-use Rattle.text.proofs.Below.{all-fails, all-more, list-more}
 
 pub bad-high : (s : List ℕ) (n k : ℕ) → k < n → 15 < highAt s k → BadDigit ≡ pairsDecoded s n
 unfolding pairsDecoded
-bad-high s n k h e = rw (all-fails (pairAt s) n k h (rw (lt-leb (highAt s k) 15 e)))
+bad-high s n k h e = rw (← allBelow-fails (pairAt s) n k h (rw (lt-leb (highAt s k) 15 e)))
 
 pub bad-low : (s : List ℕ) (n k : ℕ) → k < n → 15 < lowAt s k → BadDigit ≡ pairsDecoded s n
 unfolding pairsDecoded
 bad-low s n k h e =
-    rw (all-fails (pairAt s) n k h (rw (lt-leb (lowAt s k) 15 e, and-false (leb (highAt s k) 15))))
+    rw (← allBelow-fails (pairAt s) n k h (rw (lt-leb (lowAt s k) 15 e, and-false (leb (highAt s k) 15))))
 
 pub pair-more : (s : List ℕ) (k : ℕ) → allBelow (pairAt s) k ≡ true → highAt s k ≤ 15 → lowAt s k ≤ 15 → allBelow (pairAt s) (k + 1) ≡ true
 pair-more s k e a b =
-    all-more (pairAt s) k e (rw (le-leb (highAt s k) 15 a, le-leb (lowAt s k) 15 b))
+    allBelow-passes (pairAt s) k e (rw (le-leb (highAt s k) 15 a, le-leb (lowAt s k) 15 b))
 
 pub byte-more : (s out : List ℕ) (k v : ℕ) → k < length out → take k out ≡ bytesTo s k → v ≡ byteAt s k → take (k + 1) (set out k v) ≡ bytesTo s (k + 1)
 byte-more s out k v h e f =
-    rw (list-more (byteAt s) k, add-one k, take-suc-set out k v h, e, f)
+    rw (build-more (byteAt s) k, add-one k, take-suc-set out k v h, e, f)
 
 pub all-pairs : (s : List ℕ) (n : ℕ) → allBelow (pairAt s) n ≡ true → Bytes n ≡ pairsDecoded s n
 unfolding pairsDecoded

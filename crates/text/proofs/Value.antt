@@ -10,10 +10,10 @@ use native.Mathlib.Omega.{arith}
 use lib.ListN.{getD, length}
 use lib.Dec.{eqb}
 use borrow.Author.Tests.{eqb-true, eqb-false, lt-leb, le-leb}
-use Rattle.text.specs.Below.{allBelow}
+use Rattle.lists.specs.Loops.{allBelow}
+use Rattle.lists.proofs.AllBelow.{allBelow-fails}
 use Rattle.text.specs.Decimal.{digitAt, digitsRead, isDigit, valueTo}
 use Rattle.text.specs.declared.number.Number.the-variants.{Value, Bad}
-use Rattle.text.proofs.Below.{all-fails}
 
 pub value-none : (s : List ℕ) → valueTo s 0 ≡ 0
 unfolding valueTo
@@ -39,7 +39,7 @@ value-grows s m (suc n) h = go (λ l. value-grows s m n l) (eqb m (suc n)) refl
 -- a byte that is no digit
 pub no-digit : (s : List ℕ) (k : ℕ) → k < length s → isDigit (getD s k 0) ≡ false → Bad ≡ digitsRead s
 unfolding digitsRead
-no-digit s k h e = rw (all-fails (digitAt s) (length s) k h e)
+no-digit s k h e = rw (← allBelow-fails (digitAt s) (length s) k h e)
 
 -- a first part that already spells too large a number
 pub too-large : (s : List ℕ) (n : ℕ) → n ≤ length s → 4294967295 < valueTo s n → Bad ≡ digitsRead s

@@ -10,7 +10,7 @@ use mathlib.Core.Bool.{Bool, cond, _&&_}
 use mathlib.Core.List.{List}
 use lib.ListN.{getD, length}
 use lib.Dec.{eqb, leb, ltb}
-use Rattle.text.specs.Below.{allBelow}
+use Rattle.lists.specs.Loops.{allBelow}
 use Rattle.text.specs.declared.number.Number.{Number}
 use Rattle.text.specs.declared.number.Number.the-variants.{Value, Bad}
 

@@ -17,7 +17,7 @@ use mathlib.Core.List.{List, [], _∷_, _++_}
 use lib.ListN.{getD, length, take}
 use lib.Dec.{eqb, leb, ltb}
 use Rattle.io.specs.Digits.{glyph}
-use Rattle.text.specs.Below.{allBelow, listBelow}
+use Rattle.lists.specs.Loops.{build, allBelow}
 use Rattle.text.specs.declared.hex.Decoded.{Decoded}
 use Rattle.text.specs.declared.hex.Decoded.the-variants.{Bytes, Empty, Odd, BadDigit, NoRoom}
 
@@ -40,7 +40,7 @@ abbrev pub byteAt : List ℕ → ℕ → ℕ
 byteAt s k = highAt s k * 16 + lowAt s k
 
 abbrev pub bytesTo : List ℕ → ℕ → List ℕ
-bytesTo s n = listBelow (byteAt s) n
+bytesTo s n = build (byteAt s) n
 
 unfoldable pub isDash : List ℕ → Bool
 isDash s = eqb (length s) 1 && eqb (getD s 0 0) 45

@@ -1,4 +1,4 @@
-pub mod Below
+pub mod Counted
 pub mod Decimal
 pub mod Hex
 pub mod Written

@@ -4,7 +4,7 @@ ghost use Prim.Native.Nat.{_≤_, min};
 ghost use lib.ListN.{getD, length};
 ghost use Rattle.bytes.specs.Bytes.{indexOf};
 ghost use lib.Dec.{eqb};
-ghost use Rattle.text.specs.Below.{countBelow};
+ghost use Rattle.text.specs.Counted.{countBelow};
 
 // The smaller of the two. Most places go through it, so that none lies past the end of its slice.
 pub fn least(a: usize, b: usize) -> usize

@@ -39,7 +39,7 @@ use Rattle.agreement.specs.Runs.{answer}
 use Rattle.agreement.proofs.Agreement.{call-sound}
 use Rattle.boardwords.specs.Words.{boardIn, wordIn, jobAt, lineAt, cellAt}
 use Rattle.boardwords.specs.Codec.{wordsOf, Writable}
-use Rattle.boardwords.proofs.Listed.{length-listed}
+use Rattle.lists.proofs.Build.{build-length}
 use Rattle.boardwords.proofs.Back.{board-back}
 
 abbrev pub GivenBack : List ℕ → Ruled → Type 0
@@ -162,9 +162,9 @@ module _ (w : List ℕ) where
   shaped : Shaped (boardIn w)
   shaped =
       record {
-        jobs = length-listed (jobAt (wordIn w)) 16;
-        lines = length-listed (lineAt (wordIn w)) 16;
-        gaps = length-listed (cellAt (wordIn w)) 4225;
+        jobs = build-length (jobAt (wordIn w)) 16;
+        lines = build-length (lineAt (wordIn w)) 16;
+        gaps = build-length (cellAt (wordIn w)) 4225;
       }
 
   call-writable :

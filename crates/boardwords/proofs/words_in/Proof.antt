@@ -5,13 +5,14 @@ use lib.ListN.{length, length-set}
 use native.Mathlib.Omega.{arith}
 use borrow.Author.Needs.{needs}
 use Rattle.lines.specs.Padded.{padded}
-use Rattle.boardwords.specs.Words.{listed, wordAt}
-use Rattle.boardwords.proofs.Listed.{filled-none, filled-next, filled-done}
+use Rattle.lists.specs.Loops.{build}
+use Rattle.boardwords.specs.Words.{wordAt}
+use Rattle.boardwords.proofs.Filled.{filled-none, filled-next, filled-done}
 use Rattle.boardwords.proofs.words_in.Statement.{statement}
 use Rattle.boardwords.proofs.words_in.Tie as tie
 
 abbrev Inv-loop : tie.InvT-loop
-Inv-loop s next₀ k₀ next k = (k ≤ 5829) × (next ≡ padded 5829 0 (listed (wordAt s) k)) × (length next ≡ 5829)
+Inv-loop s next₀ k₀ next k = (k ≤ 5829) × (next ≡ padded 5829 0 (build (wordAt s) k)) × (length next ≡ 5829)
 
 abbrev μ-loop : tie.MeasureT-loop
 μ-loop s next₀ k₀ next k = 5829 - k

@@ -5,13 +5,14 @@ use lib.ListN.{length, length-set}
 use native.Mathlib.Omega.{arith}
 use borrow.Author.Needs.{needs}
 use Rattle.lines.specs.Padded.{padded}
-use Rattle.boardwords.specs.Words.{wordIn, listed, cellAt}
-use Rattle.boardwords.proofs.Listed.{filled-none, filled-next, filled-done}
+use Rattle.lists.specs.Loops.{build}
+use Rattle.boardwords.specs.Words.{wordIn, cellAt}
+use Rattle.boardwords.proofs.Filled.{filled-none, filled-next, filled-done}
 use Rattle.boardwords.proofs.reading.cells.Statement.{statement}
 use Rattle.boardwords.proofs.reading.cells.Tie as tie
 
 abbrev Inv-loop : tie.InvT-loop
-Inv-loop s next₀ k₀ next k = (k ≤ 4225) × (next ≡ padded 4225 0 (listed (cellAt (wordIn s)) k)) × (length next ≡ 4225)
+Inv-loop s next₀ k₀ next k = (k ≤ 4225) × (next ≡ padded 4225 0 (build (cellAt (wordIn s)) k)) × (length next ≡ 4225)
 
 abbrev μ-loop : tie.MeasureT-loop
 μ-loop s next₀ k₀ next k = 4225 - k

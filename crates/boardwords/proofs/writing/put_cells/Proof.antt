@@ -4,14 +4,14 @@ use mathlib.Core.Path.{_≡_, refl}
 use native.Mathlib.Omega.{arith}
 use lib.ListN.{length, getD, length-set}
 use borrow.Author.Needs.{needs}
-use Rattle.boardwords.specs.Words.{listed}
+use Rattle.lists.specs.Loops.{build}
 use Rattle.boardwords.specs.Codec.{put}
 use Rattle.boardwords.proofs.Put.{put-no-cell, put-cell}
 use Rattle.boardwords.proofs.writing.put_cells.Statement.{statement}
 use Rattle.boardwords.proofs.writing.put_cells.Tie as tie
 
 abbrev Inv-loop : tie.InvT-loop
-Inv-loop w₀ gaps k₀ w k = (k ≤ 4225) × (w ≡ put w₀ 1604 (listed (λ i. getD gaps i 0) k)) × (length w ≡ 5829) × (length gaps ≡ 4225)
+Inv-loop w₀ gaps k₀ w k = (k ≤ 4225) × (w ≡ put w₀ 1604 (build (λ i. getD gaps i 0) k)) × (length w ≡ 5829) × (length gaps ≡ 4225)
 
 abbrev μ-loop : tie.MeasureT-loop
 μ-loop w₀ gaps k₀ w k = 4225 - k

@@ -6,7 +6,7 @@ use native.Mathlib.Omega.{arith}
 use lib.ListN.{drop, drop-of-length-le, length}
 use borrow.Author.Needs.{needs}
 use Rattle.boardwords.specs.Words.{wordIn, lineAt, linesFrom}
-use Rattle.boardwords.proofs.Listed.{length-listed}
+use Rattle.lists.proofs.Build.{build-length}
 use Rattle.sound.specs.Sound.{allOf, sizedLine}
 use Rattle.sound.proofs.Flags.{all-next, all-end}
 use Rattle.sound.proofs.InWords.{lines-next}
@@ -48,7 +48,7 @@ returns : tie.Need-returns Inv-loop μ-loop
 returns c = let A = c .before .before .before .args in
     let L = c .before .loop in
     let ls = linesFrom (wordIn (A .w .now)) in
-    let over : length ls ≤ L .k = omega (arith, length-listed (lineAt (wordIn (A .w .now))) 16) in
+    let over : length ls ≤ L .k = omega (arith, build-length (lineAt (wordIn (A .w .now))) 16) in
     all-end (sizedLine (A .n)) ls (L .k) (L .ok) (L .inv .1) (drop-of-length-le ls over)
 
 pub are-lines-sized-spec : {M : Type 1} → statement M

@@ -1,7 +1,7 @@
 -- `text::hex::decode_hex` meets its contract. Each answer follows from the tests that led there; the last is that of `decode_pairs`. Assumes nothing.
 use borrow.Author.Tests.{eq-eqb, ne-eqb, lt-ltb, le-ltb}
 use Rattle.text.specs.Hex.{decoded}
-use Rattle.text.proofs.Below.{list-none}
+use Rattle.lists.proofs.Build.{build-none}
 use mathlib.Core.Path.{sym}
 use native.Mathlib.Omega.{arith}
 use borrow.Author.Needs.{needs}
@@ -13,7 +13,7 @@ is-dash-requires c κs = search needs
 
 returns : tie.Need-returns
 unfolding decoded
-returns c = (simp (← c .before .is-dash .ensures, c .if1 .taken), (omega arith, sym (list-none _)))
+returns c = (simp (← c .before .is-dash .ensures, c .if1 .taken), (omega arith, sym (build-none _)))
 
 returns-2 : tie.Need-returns-2
 unfolding decoded

@@ -2,9 +2,10 @@
 use Rattle.text.proofs.Pairs.{all-pairs, bad-high, bad-low, byte-more, pair-more}
 use mathlib.Core.Bool.{true}
 use lib.ListN.{take, length, length-set}
-use Rattle.text.specs.Below.{allBelow}
+use Rattle.lists.specs.Loops.{allBelow}
 use Rattle.text.specs.Hex.{bytesTo, pairAt}
-use Rattle.text.proofs.Below.{all-none, list-none}
+use Rattle.lists.proofs.AllBelow.{allBelow-none}
+use Rattle.lists.proofs.Build.{build-none}
 use Prim.Native.Nat.{_≤_, _-_}
 use mathlib.Core.Path.{_≡_, refl, sym}
 use native.Mathlib.Omega.{arith}
@@ -18,7 +19,7 @@ abbrev μ-loop : tie.MeasureT-loop
 μ-loop s out₀ n i₀ out i = n - i
 
 loop-holds : tie.Need-loop-holds Inv-loop μ-loop
-loop-holds c = (omega arith, refl, all-none _, sym (list-none _))
+loop-holds c = (omega arith, refl, sym (allBelow-none _), sym (build-none _))
 
 mul-digit-value : tie.Need-mul-digit-value Inv-loop μ-loop
 mul-digit-value c = omega arith

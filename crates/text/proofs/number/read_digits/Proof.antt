@@ -1,9 +1,9 @@
 -- `text::number::read_digits` meets its contract. The invariant: the bytes passed are digits, and value, which fits 32 bits, is what they spell. The laws of the three ways out are in `Value`. Assumes nothing.
 use mathlib.Core.Bool.{true}
 use borrow.Author.Tests.{not-true, not-false}
-use Rattle.text.specs.Below.{allBelow}
+use Rattle.lists.specs.Loops.{allBelow}
 use Rattle.text.specs.Decimal.{digitAt, valueTo}
-use Rattle.text.proofs.Below.{all-none, all-more}
+use Rattle.lists.proofs.AllBelow.{allBelow-none, allBelow-passes}
 use Rattle.text.proofs.Value.{all-digits, no-digit, too-large, value-more, value-none}
 use Prim.Native.Nat.{_≤_, _-_, _+_}
 use mathlib.Core.Path.{_≡_, sym, _∙_}
@@ -19,7 +19,7 @@ abbrev μ-loop : tie.MeasureT-loop
 μ-loop s value₀ i₀ value i = length s - i
 
 loop-holds : tie.Need-loop-holds Inv-loop μ-loop
-loop-holds c = (omega arith, omega arith, sym (value-none _), all-none _)
+loop-holds c = (omega arith, omega arith, sym (value-none _), sym (allBelow-none _))
 
 shared-slice-read-is-digit : tie.Need-shared-slice-read-is-digit Inv-loop μ-loop
 shared-slice-read-is-digit c = omega arith
@@ -57,7 +57,7 @@ loop-again c = let L = c .before .before .before .before .before .before .before
       omega arith,
       omega arith,
       omega (arith, value-more s (L .i)),
-      all-more (digitAt s) (L .i) (L .inv .3) (sym (c .before .before .before .before .is-digit .ensures) ∙ not-false _ (c .before .before .before .if1 .left)),
+      allBelow-passes (digitAt s) (L .i) (L .inv .3) (sym (c .before .before .before .before .is-digit .ensures) ∙ not-false _ (c .before .before .before .if1 .left)),
     )
 
 cast-t12 : tie.Need-cast-t12 Inv-loop μ-loop

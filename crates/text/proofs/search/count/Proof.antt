@@ -1,7 +1,7 @@
 -- `text::search::count` meets its contract. The invariant: n counts the bytes passed that are x, so it is at most i. Assumes nothing.
 use lib.Dec.{eqb}
-use Rattle.text.specs.Below.{countBelow}
-use Rattle.text.proofs.Below.{byte-small, count-none, count-step}
+use Rattle.text.specs.Counted.{countBelow}
+use Rattle.text.proofs.Counted.{byte-small, count-none, count-step}
 use Prim.Native.Nat.{_≤_, _-_}
 use mathlib.Core.Path.{_≡_, sym}
 use native.Mathlib.Omega.{arith}
