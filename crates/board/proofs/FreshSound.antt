@@ -5,13 +5,11 @@
 use Prim.Native.Nat.{ℕ, zero, suc, _+_, _*_, _≤_, _<_}
 use mathlib.Core.Path.{_≡_, refl, _∙_, ap}
 use mathlib.Core.Logic.{_⊎_, inl, inr}
-use mathlib.Core.Bool.{false, _||_}
+use mathlib.Core.Bool.{false}
 use mathlib.Core.List.{[], _∷_}
 use native.Mathlib.Omega.{arith}
 use lib.ListN.{getD, set, replicate}
-use lib.Dec.{ltb}
-use borrow.Author.Tests.{ltb-false}
-use Rattle.rulings.proofs.Laws.{neither}
+use borrow.Author.Tests.{not-false}
 use Rattle.plain.specs.Plain.{total}
 use Rattle.lines.specs.Held.{lineOf, linesFrom, noLine}
 use Rattle.stn.specs.Table.{bias}
@@ -22,6 +20,7 @@ use Rattle.board.specs.declared.Settings.{Settings}
 use Rattle.board.specs.Boards.{badSettings, zeroCells, freshCells, freshBoard, zeroBoard}
 use Rattle.lists.specs.All.{All}
 use Rattle.sound.specs.Sound.{SizedUse, Sound, sound}
+use Rattle.sound.proofs.Soundness.{settings-to}
 
 pub zero-unsound : sound zeroBoard ≡ false
 unfolding sound zeroBoard fresh
@@ -87,11 +86,10 @@ module _ (s : Settings) (good : badSettings s ≡ false) where
   pub fresh-sound : Sound (freshBoard s)
   unfolding badSettings freshBoard fresh total
   fresh-sound =
-      let p = neither (ltb (s .horizon) 1) (ltb 100000000 (s .horizon) || ltb 1000000 (s .lead)) good in
-      let q = neither (ltb 100000000 (s .horizon)) (ltb 1000000 (s .lead)) (p .1) in
+      let sized = settings-to (s .horizon) (s .lead) (not-false _ good) in
       record {
-        horizon = (ltb-false (s .horizon) 1 (p .0), ltb-false 100000000 (s .horizon) (q .0));
-        lead = ltb-false 1000000 (s .lead) (q .1);
+        horizon = sized .0;
+        lead = sized .1;
         clock = omega arith;
         jobs = omega arith;
         sizes = tt;

@@ -6,10 +6,9 @@
 --   freshBoard     a fresh board;  zeroBoard: the board of a refused fresh
 --   freshRuled     the answer to fresh
 use Prim.Native.Nat.{ℕ}
-use mathlib.Core.Bool.{Bool, cond, _||_}
+use mathlib.Core.Bool.{Bool, cond, not}
 use mathlib.Core.List.{List, []}
 use lib.ListN.{set, replicate}
-use lib.Dec.{ltb}
 use Rattle.rulings.specs.declared.Ruling.the-variants.{Accepted}
 use Rattle.rulings.specs.Answer.{refuse}
 use Rattle.plain.specs.Plain
@@ -18,6 +17,7 @@ use Rattle.stn.specs.Table.{bias}
 use Rattle.rulebook.specs.Book as Rulebook
 use Rattle.board.specs.declared.Settings.{Settings}
 use Rattle.boardwords.specs.declared.Board.{Board}
+use Rattle.sound.specs.Sound.{sizedSettings}
 use Rattle.board.specs.declared.Ruled.{Ruled}
 
 abbrev pub stateOf : Board → Plain.State
@@ -34,9 +34,8 @@ boardOf s l =
       gaps = l;
     }
 
--- "a horizon H (1 to 100,000,000), a lead D (0 to 1,000,000)": 5 where one is out of range
 unfoldable pub badSettings : Settings → Bool
-badSettings s = ltb (s .horizon) 1 || (ltb 100000000 (s .horizon) || ltb 1000000 (s .lead))
+badSettings s = not (sizedSettings (s .horizon) (s .lead))
 
 unfoldable pub zeroCells : List ℕ
 zeroCells = replicate 4225 0

@@ -9,6 +9,7 @@ use lines::no_job;
 use lines::no_use;
 use rulings::Cause;
 use rulings::Ruling;
+use sound::are_settings_sized;
 ghost use mathlib.Core.Path.{_≡_};
 ghost use mathlib.Core.List.{[]};
 ghost use Rattle.lines.specs.Held.{jobsFrom, lineFrom, linesFrom};
@@ -67,13 +68,7 @@ fn zero_board() -> Board
 fn is_bad(s: Settings) -> bool
     ensures { λ r. ⌜ r ≡ badSettings s ⌝ }
 {
-    if s.horizon < 1 {
-        return true;
-    }
-    if 100000000 < s.horizon {
-        return true;
-    }
-    1000000 < s.lead
+    !are_settings_sized(s.horizon, s.lead)
 }
 
 // A board with these settings, clock 0 and the origin; or 5, and a board of zeros.

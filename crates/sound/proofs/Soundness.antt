@@ -1,5 +1,5 @@
 -- The test of a board is true exactly where document 01 calls the board sound.
---   numbers-to, numbers-of   horizon, lead and clock;  jobs-to, jobs-of: the jobs' sizes
+--   numbers-to, numbers-of   horizon, lead and clock;  settings-to: horizon and lead;  jobs-to, jobs-of: the jobs' sizes
 --   sized-next, jobs-sized   what the walks of the jobs ask: of the next job, and of all
 --   all-to, all-of           a list whose elements are tested one by one
 --   first-to, first-of       sent jobs come first
@@ -39,6 +39,7 @@ use Rattle.sound.specs.Sound.{
   pointsOf,
   Sound,
   allOf,
+  sizedSettings,
   sizedNumbers,
   sizedJob,
   sizedJobs,
@@ -64,13 +65,18 @@ module _ {A : Type 0} (P : A → Type 0) where
 
 -- ---- numbers and jobs
 
+pub settings-to : (H D : ℕ) → sizedSettings H D ≡ true → ((1 ≤ H) × (H ≤ 100000000)) × (D ≤ 1000000)
+settings-to H D h =
+    let p = both-true (leb 1 H && leb H 100000000) (leb D 1000000) h in
+    let q = both-true (leb 1 H) (leb H 100000000) (p .0) in
+    ((leb-true 1 H (q .0), leb-true H 100000000 (q .1)), leb-true D 1000000 (p .1))
+
 module _ (H D c : ℕ) where
   pub numbers-to : sizedNumbers H D c ≡ true → ((1 ≤ H) × (H ≤ 100000000)) × (D ≤ 1000000) × (c ≤ H)
   numbers-to h =
-      let p = both-true (leb 1 H && leb H 100000000 && leb D 1000000) (leb c H) h in
-      let q = both-true (leb 1 H && leb H 100000000) (leb D 1000000) (p .0) in
-      let r = both-true (leb 1 H) (leb H 100000000) (q .0) in
-      ((leb-true 1 H (r .0), leb-true H 100000000 (r .1)), leb-true D 1000000 (q .1), leb-true c H (p .1))
+      let p = both-true (sizedSettings H D) (leb c H) h in
+      let q = settings-to H D (p .0) in
+      (q .0, q .1, leb-true c H (p .1))
 
   numbers-of : (1 ≤ H) × (H ≤ 100000000) → D ≤ 1000000 → c ≤ H → sizedNumbers H D c ≡ true
   numbers-of h d e = rw (le-leb 1 H (h .0), le-leb H 100000000 (h .1), le-leb D 1000000 d, le-leb c H e)

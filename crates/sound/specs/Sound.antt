@@ -5,6 +5,7 @@
 --   StillSent l x js     each point of a sent job has its earliest equal to its latest; x is the first point of the list's first job
 --   Sound b              the definition
 --   sound b              the test; proofs/Soundness says that it is true exactly when Sound b holds. It is made of
+--     sizedSettings H D  horizon and lead are within the limits: what fresh asks of them too
 --     sizedNumbers, sizedJobs, sizedLine   the numbers are within the limits: of the board, of its jobs, of a line
 --     sentFrom           sent jobs come first
 --     stillSent          each point of a sent job stands still;  standStill: the m points from x on do
@@ -79,9 +80,13 @@ abbrev pub allOf : {A : Type 0} → (A → Bool) → List A → Bool
 allOf f [] = true
 allOf f (a ∷ l) = f a && allOf f l
 
+-- "a horizon H (1 to 100,000,000), a lead D (0 to 1,000,000)"
+abbrev pub sizedSettings : ℕ → ℕ → Bool
+sizedSettings H D = leb 1 H && leb H 100000000 && leb D 1000000
+
 -- horizon, lead and clock
 abbrev pub sizedNumbers : ℕ → ℕ → ℕ → Bool
-sizedNumbers H D c = leb 1 H && leb H 100000000 && leb D 1000000 && leb c H
+sizedNumbers H D c = sizedSettings H D && leb c H
 
 abbrev pub sizedJob : Job → Bool
 sizedJob j = leb 2 (j .points) && leb (j .points) 9

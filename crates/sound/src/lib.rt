@@ -15,6 +15,7 @@ use lining::are_lines_sized;
 use sent::is_sent_first;
 use sent::is_sent_still;
 use sizing::are_numbers_sized;
+pub use sizing::are_settings_sized;
 use sizing::is_each_sized;
 use sizing::points_in;
 ghost use mathlib.Core.Path.{_≡_};

@@ -8,12 +8,19 @@ ghost use lib.ListN.{length};
 ghost use Rattle.plain.specs.Plain.{total};
 ghost use Rattle.lines.specs.Held.{jobsOf};
 ghost use Rattle.boardwords.specs.Words.{wordIn, heldJobs};
-ghost use Rattle.sound.specs.Sound.{allOf, sizedNumbers, sizedJob};
+ghost use Rattle.sound.specs.Sound.{allOf, sizedSettings, sizedNumbers, sizedJob};
+
+// Horizon and lead, of a board and of one to come.
+pub fn are_settings_sized(horizon: u32, lead: u32) -> bool
+    ensures { λ r. ⌜ r ≡ sizedSettings horizon lead ⌝ }
+{
+    (1 <= horizon) & (horizon <= 100_000_000) & (lead <= 1_000_000)
+}
 
 pub fn are_numbers_sized(horizon: u32, lead: u32, clock: u32) -> bool
     ensures { λ r. ⌜ r ≡ sizedNumbers horizon lead clock ⌝ }
 {
-    (1 <= horizon) & (horizon <= 100_000_000) & (lead <= 1_000_000) & (clock <= horizon)
+    are_settings_sized(horizon, lead) & (clock <= horizon)
 }
 
 fn is_job_sized(job: Job) -> bool

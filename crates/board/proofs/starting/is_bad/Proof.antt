@@ -1,20 +1,17 @@
-use borrow.Author.Tests.{lt-ltb, le-ltb}
+-- `is_bad` meets its contract: it is what the test of the settings says, the other way.
+use mathlib.Core.Path.{ap}
+use mathlib.Core.Bool.{not}
+use borrow.Author.Needs.{needs}
 use Rattle.board.specs.Boards.{badSettings}
-use Prim.Native.Nat.{_-_}
 use Rattle.board.proofs.starting.is_bad.Statement.{statement}
 use Rattle.board.proofs.starting.is_bad.Tie as tie
 
+are-settings-sized-requires : tie.Need-are-settings-sized-requires
+are-settings-sized-requires c κs = search needs
+
 returns : tie.Need-returns
 unfolding badSettings
-returns c = simp (lt-ltb _ _ (c .if1 .taken))
-
-returns-2 : tie.Need-returns-2
-unfolding badSettings
-returns-2 c = simp (le-ltb _ _ (c .before .before .if1 .left), lt-ltb _ _ (c .if2 .taken))
-
-returns-3 : tie.Need-returns-3
-unfolding badSettings
-returns-3 c = simp (le-ltb _ _ (c .before .before .before .if1 .left), le-ltb _ _ (c .before .if2 .left))
+returns c = ap not (c .are-settings-sized .ensures)
 
 pub is-bad-spec : {M : Type 1} → statement M
-is-bad-spec = tie.close (tie.spec returns returns-2 returns-3)
+is-bad-spec = tie.close (tie.spec are-settings-sized-requires returns)
