@@ -18,7 +18,7 @@ use Rattle.plain.proofs.Rules.{kept-append}
 use Rattle.stn.specs.Table.{Fits}
 use Rattle.gaps.specs.Cells.{cell, tableOf}
 use Rattle.gaps.proofs.GapTable.{gapTable-closed}
-use Rattle.rulebook.specs.Book.{Point, joined, Possible}
+use Rattle.rulebook.specs.Book.{Point, completed, Possible}
 use Rattle.boardwords.specs.declared.Board.{Board}
 use Rattle.lists.specs.All.{All}
 use Rattle.sound.specs.Sound.{SizedJob, SizedUse, Sound}
@@ -58,10 +58,10 @@ module _ (l : List ℕ) (t : Point → ℤ) where
       to row rest i j hi hj (yes e) = rw e (row j hj)
       to row rest i j hi hj (no e) = rest i j (omega arith) hj
 
-cells-fit : (l : List ℕ) (n : ℕ) (u : Times) (g : ℕ → ℤ) → Fits n (tableOf l) u ↔ AllKept (joined u g) (tableRules l n n)
-unfolding joined cellRule Kept
+cells-fit : (l : List ℕ) (n : ℕ) (u : Times) (g : ℕ → ℤ) → Fits n (tableOf l) u ↔ AllKept (completed u g) (tableRules l n n)
+unfolding completed cellRule Kept
 cells-fit l n u g =
-    let all = table-kept l (joined u g) n n in
+    let all = table-kept l (completed u g) n n in
     (λ f. all .1 (f .cell), λ k. record { cell = all .0 k })
 
 -- ---- the rest of a state

@@ -27,7 +27,7 @@ use Rattle.board.specs.Boards.{stateOf}
 use Rattle.lists.specs.All.{All}
 use Rattle.sound.specs.Sound.{SizedJob, Sound, sound}
 use Rattle.settling.specs.Settled.{AllUsable, addedAll, outcome}
-use Rattle.boardwords.specs.Words.{wordIn, heldJobs, boardIn, linesFrom as readFrom}
+use Rattle.boardwords.specs.Words.{wordIn, heldJobs, boardIn, linesRead}
 use Rattle.boardwords.specs.Codec.{linesWords, put}
 use Rattle.boardwords.proofs.Lent.{lentTable, wordsWith, cells-lent, unwritten}
 use Rattle.board.specs.Calls.{refusal, settled, clocked}
@@ -152,7 +152,7 @@ module _
         → outcome ok t ≡ addedAll (rulesOf rules) n (lentTable w)
         → (ok ≡ false → t ≡ lentTable w → (Refused (plain 20) ≡ clocked (boardIn w) c .ruling) × (wordsWith w t ≡ wordsAfter w (clocked (boardIn w) c)))
         × ((new : Jobs) (x z : List ℕ) → ok ≡ true → new ≡ jobsFrom (jobsOf old) → length (wordsWith w t) ≡ 5829 → x ≡ fronted (wordsWith w t) c new
-        → z ≡ put x 52 (linesWords (linesFrom (linesOf (readFrom (wordIn x)))))
+        → z ≡ put x 52 (linesWords (linesFrom (linesOf (linesRead (wordIn x)))))
         → (Accepted ≡ clocked (boardIn w) c .ruling) × (z ≡ wordsAfter w (clocked (boardIn w) c)))
 
     starts-read : StartWords (boardIn w .jobs)

@@ -23,7 +23,7 @@ use Rattle.plain.specs.Plain.{total}
 use Rattle.stn.specs.Table.{Closed}
 use Rattle.gaps.specs.Cells.{tableOf}
 use Rattle.boardwords.specs.declared.Board.{Board}
-use Rattle.boardwords.specs.Words.{wordIn, heldJobs, linesFrom, lineAt, allMarked, boardIn}
+use Rattle.boardwords.specs.Words.{wordIn, heldJobs, linesRead, lineAt, allMarked, boardIn}
 use Rattle.boardwords.specs.Codec.{wordsOf, counted, headWords, jobsWords, linesWords, put}
 use Rattle.lists.proofs.Build.{build-length}
 use Rattle.boardwords.proofs.Boards.{same-lines}
@@ -70,7 +70,7 @@ module _ (w : List ℕ) (e : sound (boardIn w) ≡ true) where
   pub horizon-is : wordIn w 0 ≡ boardIn w .horizon
   horizon-is = sym (ap (λ (x : Bool). cond x (wordIn w 0) 0) marks)
 
-  few-uses : (x : List ℕ) → linesFrom (wordIn x) ≡ linesFrom (wordIn w) → (k : ℕ) → getD (linesFrom (wordIn x)) k noLine .count ≤ 32
+  few-uses : (x : List ℕ) → linesRead (wordIn x) ≡ linesRead (wordIn w) → (k : ℕ) → getD (linesRead (wordIn x)) k noLine .count ≤ 32
   few-uses x same = subst (λ (ls : List Line). (k : ℕ) → getD ls k noLine .count ≤ 32) (sym same) (lines-small (boardIn w) is-sound (lines-many w))
 
   -- jobs that were read from the words
@@ -93,7 +93,7 @@ module _ (w : List ℕ) (e : sound (boardIn w) ≡ true) where
           ∙ (put-from _ 4 (jobsWords (jobs .jobs)) k (omega (arith, length-jobs (jobs .jobs)))
           ∙ (put-from (wordsWith w t) 0 (wordIn (wordsWith w t) 0 ∷ wordIn (wordsWith w t) 1 ∷ c ∷ counted (jobs .count) ∷ []) k (omega arith) ∙ with-word w len t k h))
 
-      pub lines-kept : linesFrom (wordIn x) ≡ linesFrom (wordIn w)
+      pub lines-kept : linesRead (wordIn x) ≡ linesRead (wordIn w)
       lines-kept = same-lines (wordIn x) (wordIn w) kept
 
       pub length-fronted : length (wordsWith w t) ≡ 5829 → length x ≡ 5829
@@ -102,7 +102,7 @@ module _ (w : List ℕ) (e : sound (boardIn w) ≡ true) where
           ∙ (put-length (put (wordsWith w t) 0 (wordIn (wordsWith w t) 0 ∷ wordIn (wordsWith w t) 1 ∷ c ∷ counted (jobs .count) ∷ [])) 4 (jobsWords (jobs .jobs))
           ∙ (put-length (wordsWith w t) 0 (wordIn (wordsWith w t) 0 ∷ wordIn (wordsWith w t) 1 ∷ c ∷ counted (jobs .count) ∷ []) ∙ size))
 
-      pub few-after : (k : ℕ) → getD (linesFrom (wordIn x)) k noLine .count ≤ 32
+      pub few-after : (k : ℕ) → getD (linesRead (wordIn x)) k noLine .count ≤ 32
       few-after = few-uses x lines-kept
 
       pub assembled :

@@ -25,7 +25,7 @@ use Rattle.stn.specs.Table.{bias, Closed}
 use Rattle.gaps.specs.Cells.{tableOf, grown}
 use Rattle.settling.specs.Settled.{AllUsable, addedAll, outcome}
 use Rattle.offered.specs.Sized.{SizedOffer}
-use Rattle.boardwords.specs.Words.{wordIn, heldJobs, lineAt, boardIn, linesFrom as readFrom}
+use Rattle.boardwords.specs.Words.{wordIn, heldJobs, lineAt, boardIn, linesRead}
 use Rattle.boardwords.specs.Codec.{linesWords, put}
 use Rattle.lists.proofs.Build.{build-length}
 use Rattle.boardwords.proofs.Lent.{lentTable, wordsWith, cells-lent, unwritten}
@@ -56,34 +56,34 @@ held-few (q ∷ ls) h (suc k) = held-few ls (λ i. h (suc i)) k
 -- ---- the draft
 
 module _ (w : List ℕ) (e : sound (boardIn w) ≡ true) where
-  lined-read : Lined (readFrom (wordIn w))
+  lined-read : Lined (linesRead (wordIn w))
   lined-read = lined (boardIn w) (is-sound w e) (lines-many w)
 
   module _ (u x : List ℕ) (room : 1604 ≤ length u) (ex : x ≡ rewritten (wordIn w) u 52 1604) where
-    same : readFrom (wordIn x) ≡ readFrom (wordIn w)
+    same : linesRead (wordIn x) ≡ linesRead (wordIn w)
     same = copied-lines u w x room ex
 
-    pub few-copied : (k : ℕ) → getD (readFrom (wordIn x)) k noLine .count ≤ 32
+    pub few-copied : (k : ℕ) → getD (linesRead (wordIn x)) k noLine .count ≤ 32
     few-copied = subst (λ (ls : List Line). (k : ℕ) → getD ls k noLine .count ≤ 32) (sym same) (lined-read .counts)
 
     pub tidied-copy :
-        (z : List ℕ) → 1604 ≤ length x → z ≡ put x 52 (linesWords (linesFrom (linesOf (readFrom (wordIn x)))))
-        → (linesOf (readFrom (wordIn z)) ≡ linesOf (boardIn w .lines)) × Ready (readFrom (wordIn z))
+        (z : List ℕ) → 1604 ≤ length x → z ≡ put x 52 (linesWords (linesFrom (linesOf (linesRead (wordIn x)))))
+        → (linesOf (linesRead (wordIn z)) ≡ linesOf (boardIn w .lines)) × Ready (linesRead (wordIn z))
     tidied-copy z long ez =
-        let ls = readFrom (wordIn x) in
+        let ls = linesRead (wordIn x) in
         let many : length ls ≡ 16 = build-length (lineAt (wordIn x)) 16 in
-        let back : readFrom (wordIn z) ≡ linesFrom (linesOf ls) =
-        ap (λ (y : List ℕ). readFrom (wordIn y)) ez
+        let back : linesRead (wordIn z) ≡ linesFrom (linesOf ls) =
+        ap (λ (y : List ℕ). linesRead (wordIn y)) ez
         ∙ written-lines x (linesFrom (linesOf ls)) long (length-map (linesOf ls) lineFrom ∙ (length-map ls lineOf ∙ many))
         (λ k h. held-full ls k (omega (arith, many))) (λ k h. held-few ls few-copied k) in
-        let r = tidied-ready ls (readFrom (wordIn z)) (subst Lined (sym same) lined-read) many back in
+        let r = tidied-ready ls (linesRead (wordIn z)) (subst Lined (sym same) lined-read) many back in
         (r .0 ∙ ap linesOf same, r .1)
 
   pub drafted-words :
-      (jobs : Jobs) → jobs ≡ heldJobs (wordIn w) → (z : List ℕ) → linesOf (readFrom (wordIn z)) ≡ linesOf (boardIn w .lines) → (o : Offer) (r : Drafted) (after : List Line)
-      → DraftedAs r after (drafted (Held.stateOf jobs (readFrom (wordIn z)) (wordIn w 2) (boardIn w .horizon) (wordIn w 1)) o) → DraftedAs r after (drafted (stateOf (boardIn w)) o)
+      (jobs : Jobs) → jobs ≡ heldJobs (wordIn w) → (z : List ℕ) → linesOf (linesRead (wordIn z)) ≡ linesOf (boardIn w .lines) → (o : Offer) (r : Drafted) (after : List Line)
+      → DraftedAs r after (drafted (Held.stateOf jobs (linesRead (wordIn z)) (wordIn w 2) (boardIn w .horizon) (wordIn w 1)) o) → DraftedAs r after (drafted (stateOf (boardIn w)) o)
   drafted-words jobs ej z el o r after =
-      let is : Held.stateOf jobs (readFrom (wordIn z)) (wordIn w 2) (boardIn w .horizon) (wordIn w 1) ≡ stateOf (boardIn w) =
+      let is : Held.stateOf jobs (linesRead (wordIn z)) (wordIn w 2) (boardIn w .horizon) (wordIn w 1) ≡ stateOf (boardIn w) =
       ap₂ (λ (j : Jobs) (l : List (List Use)). record { jobs = jobsOf j; lines = l; clock = wordIn w 2; horizon = boardIn w .horizon; lead = wordIn w 1 }) ej el in
       subst (λ (s : State). DraftedAs r after (drafted s o)) is
 
@@ -104,7 +104,7 @@ module _
         → (Refused (plain 17) ≡ decided (boardIn w) (drafted (stateOf (boardIn w)) o) .ruling)
         × (wordsWith w t ≡ wordsAfter w (decided (boardIn w) (drafted (stateOf (boardIn w)) o))))
         × ((next x z : List ℕ) → ok ≡ true → length (wordsWith w t) ≡ 5829 → x ≡ fronted (wordsWith w t) (wordIn w 2) (r .jobs)
-        → drawn ≡ readFrom (wordIn next) → Ready (readFrom (wordIn next)) → z ≡ rewritten (wordIn next) x 52 1604
+        → drawn ≡ linesRead (wordIn next) → Ready (linesRead (wordIn next)) → z ≡ rewritten (wordIn next) x 52 1604
         → (Accepted ≡ decided (boardIn w) (drafted (stateOf (boardIn w)) o) .ruling)
         × (z ≡ wordsAfter w (decided (boardIn w) (drafted (stateOf (boardIn w)) o)))))
 

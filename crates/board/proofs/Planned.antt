@@ -124,7 +124,7 @@ module _ {b : Board} {o : Offer} {r : Drafted} {drawn : List Line} (g : Going b 
 -- ---- the offer as the code holds it
 
 module _ (o : Offer) (s : SizedOffer o) (steps : Steps) (puts : Puts) (es : steps ≡ stepsHeld (o .steps)) (ep : puts ≡ putsHeld (o .puts)) where
-  pub held-offer : (batch : ℕ) → batch ≡ o .batch → Held.offerOf batch steps puts ≡ o
+  pub held-offer : (batch : ℕ) → batch ≡ o .batch → Held.heldOffer batch steps puts ≡ o
   held-offer batch eb =
       rw (eb, es, ep, take-padded 8 noStep (o .steps) (s .few), take-padded 32 noPut (o .puts) (s .count))
 

@@ -29,7 +29,7 @@ use Rattle.boardwords.specs.declared.Board.{Board}
 use Rattle.sound.specs.Sound.{SizedJob, Sound, sound}
 use Rattle.board.specs.Boards.{stateOf}
 use Rattle.lines.specs.Asked.{Lined}
-use Rattle.boardwords.specs.Words.{wordIn, heldJobs, jobAt, cellAt, cellsFrom, boardIn, linesFrom as readFrom}
+use Rattle.boardwords.specs.Words.{wordIn, heldJobs, jobAt, cellAt, cellsRead, boardIn, linesRead}
 use Rattle.boardwords.specs.Codec.{linesWords, put}
 use Rattle.lists.proofs.Build.{build-length}
 use Rattle.boardwords.proofs.Lent.{lentTable, wordsWith, cells-lent}
@@ -132,18 +132,18 @@ module _
     abbrev pub Leaving : Jobs → Type 0
     Leaving old =
         let m = getD (old .jobs) 0 noJob .points in
-        InReach (cellsFrom (wordIn w)) (wordIn w 2) 1 m × (1 ≤ m) × Lined (readFrom (wordIn w)) × (1 + m ≤ suc (total (jobsOf old)))
+        InReach (cellsRead (wordIn w)) (wordIn w 2) 1 m × (1 ≤ m) × Lined (linesRead (wordIn w)) × (1 + m ≤ suc (total (jobsOf old)))
 
     -- the words after the call, where the oldest job is not over, and where it is
     abbrev pub RetiredWords : Jobs → Type 0
     RetiredWords old =
         let m = getD (old .jobs) 0 noJob .points in
         (ok : Bool) → getD (old .jobs) 0 noJob .sent ≡ true
-        → ok ≡ implied (tableOf (cellsFrom (wordIn w))) (notAfter (1 + m - 1) (wordIn w 2) ∷ allEndBy (wordIn w 2) 1 m (linesOf (readFrom (wordIn w))))
+        → ok ≡ implied (tableOf (cellsRead (wordIn w))) (notAfter (1 + m - 1) (wordIn w 2) ∷ allEndBy (wordIn w 2) 1 m (linesOf (linesRead (wordIn w))))
         → (ok ≡ false → (Refused (plain 21) ≡ retired (boardIn w) .ruling) × (w ≡ wordsAfter w (retired (boardIn w))))
         × ((new : Jobs) (n : ℕ) (t x z : List ℕ) → ok ≡ true → new ≡ jobsFrom (drop 1 (jobsOf old)) → n ≡ suc (total (jobsOf old))
         → t ≡ dropped (lentTable w) 1 m n → length (wordsWith w t) ≡ 5829 → x ≡ fronted (wordsWith w t) (wordIn w 2) new
-        → z ≡ put x 52 (linesWords (linesFrom (map (staying 1 m) (linesOf (readFrom (wordIn x))))))
+        → z ≡ put x 52 (linesWords (linesFrom (map (staying 1 m) (linesOf (linesRead (wordIn x))))))
         → (Accepted ≡ retired (boardIn w) .ruling) × (z ≡ wordsAfter w (retired (boardIn w))))
 
     first : jobsOf (boardIn w .jobs) ≡ getD (boardIn w .jobs .jobs) 0 noJob ∷ drop 1 (jobsOf (boardIn w .jobs))

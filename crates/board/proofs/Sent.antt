@@ -19,7 +19,7 @@ use Rattle.lines.specs.Held.{jobsOf, jobsFrom, linesOf, linesFrom}
 use Rattle.settling.specs.Frozen.{frozen}
 use Rattle.boardwords.specs.declared.Board.{Board}
 use Rattle.sound.specs.Sound.{sound}
-use Rattle.boardwords.specs.Words.{wordIn, heldJobs, boardIn, linesFrom as readFrom}
+use Rattle.boardwords.specs.Words.{wordIn, heldJobs, boardIn, linesRead}
 use Rattle.boardwords.specs.Codec.{wordsOf, linesWords, put}
 use Rattle.boardwords.proofs.Lent.{lentTable, wordsWith, cells-lent}
 use Rattle.board.specs.declared.Ruled.{Ruled}
@@ -77,7 +77,7 @@ module _ (w : List ℕ) (len : length w ≡ 5829) (e : sound (boardIn w) ≡ tru
   SentWords old =
       (new : Jobs) (n : ℕ) (t x z : List ℕ) → unsentAt place (jobsOf old) ≡ true → new ≡ jobsFrom (marked (place + 1) (jobsOf old))
       → n ≡ suc (total (jobsOf old)) → t ≡ frozen n (unsentPoints 1 (place + 1) (jobsOf old)) (lentTable w) → length (wordsWith w t) ≡ 5829
-      → x ≡ fronted (wordsWith w t) (wordIn w 2) new → z ≡ put x 52 (linesWords (linesFrom (linesOf (readFrom (wordIn x)))))
+      → x ≡ fronted (wordsWith w t) (wordIn w 2) new → z ≡ put x 52 (linesWords (linesFrom (linesOf (linesRead (wordIn x)))))
       → z ≡ wordsOf (sent (boardIn w) place .board)
 
   of-read : SentWords (boardIn w .jobs)

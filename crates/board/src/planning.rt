@@ -29,11 +29,11 @@ ghost use lib.ListN.{length};
 ghost use Rattle.rulings.specs.declared.Ruling.the-variants.{Accepted};
 ghost use Rattle.plant.specs.Plant.{plantRuling, trailerOf};
 ghost use Rattle.plain.specs.Plain.{drafted};
-ghost use Rattle.lines.specs.Held.{stepsOf, offerOf as heldOffer};
+ghost use Rattle.lines.specs.Held.{stepsOf, heldOffer};
 ghost use Rattle.lines.specs.Asked.{Ready, Read};
 ghost use Rattle.rulebook.specs.Reading.{readingOf};
 ghost use Rattle.offered.specs.Sized.{SizedOffer};
-ghost use Rattle.boardwords.specs.Words.{wordIn, heldJobs, linesFrom, boardIn};
+ghost use Rattle.boardwords.specs.Words.{wordIn, heldJobs, linesRead, boardIn};
 ghost use Rattle.sound.specs.Sound.{sound};
 ghost use Rattle.drafts.specs.DraftedAs.{DraftedAs};
 ghost use Rattle.board.specs.Boards.{stateOf};
@@ -51,8 +51,8 @@ fn draft_on(
 ) -> Drafted
     requires { ⌜ (length (now w) ≡ 5829) × (length (now next) ≡ 1604) ⌝ }
     requires { ⌜ (sound (boardIn (now w)) ≡ true) × (jobs ≡ heldJobs (wordIn (now w))) × (steps .count ≤ 8) × Read puts ⌝ }
-    ensures drafted { λ r. ⌜ DraftedAs r (linesFrom (wordIn (now (next .exit)))) (drafted (stateOf (boardIn (now (w .entry)))) (heldOffer batch steps puts)) ⌝ }
-    ensures ready { λ _. ⌜ Ready (linesFrom (wordIn (now (next .exit)))) ⌝ }
+    ensures drafted { λ r. ⌜ DraftedAs r (linesRead (wordIn (now (next .exit)))) (drafted (stateOf (boardIn (now (w .entry)))) (heldOffer batch steps puts)) ⌝ }
+    ensures ready { λ _. ⌜ Ready (linesRead (wordIn (now (next .exit)))) ⌝ }
 {
     copy_lines(next, w);
     tidy_lines(next);

@@ -21,7 +21,7 @@ ghost use Rattle.lines.specs.Asked.{Lined};
 ghost use Rattle.stn.specs.Table.{implied};
 ghost use Rattle.gaps.specs.Cells.{tableOf};
 ghost use Rattle.settling.specs.Ending.{InReach};
-ghost use Rattle.boardwords.specs.Words.{wordIn, heldJobs, linesFrom, cellsFrom, boardIn};
+ghost use Rattle.boardwords.specs.Words.{wordIn, heldJobs, linesRead, cellsRead, boardIn};
 ghost use Rattle.sound.specs.Sound.{sound};
 ghost use Rattle.board.specs.Calls.{retired};
 ghost use Rattle.board.specs.InWords.{wordsAfter};
@@ -29,8 +29,8 @@ ghost use Rattle.board.specs.InWords.{wordsAfter};
 // The m points from 1 on are over by the clock.
 fn is_over(w: &[u32], m: u32) -> bool
     requires { ⌜ length (now w) ≡ 5829 ⌝ }
-    requires { ⌜ InReach (cellsFrom (wordIn (now w))) (wordIn (now w) 2) 1 m × (1 ≤ m) × Lined (linesFrom (wordIn (now w))) ⌝ }
-    ensures { λ r. ⌜ r ≡ implied (tableOf (cellsFrom (wordIn (now (w .entry))))) (notAfter (1 + m - 1) (wordIn (now (w .entry)) 2) ∷ allEndBy (wordIn (now (w .entry)) 2) 1 m (linesOf (linesFrom (wordIn (now (w .entry)))))) ⌝ }
+    requires { ⌜ InReach (cellsRead (wordIn (now w))) (wordIn (now w) 2) 1 m × (1 ≤ m) × Lined (linesRead (wordIn (now w))) ⌝ }
+    ensures { λ r. ⌜ r ≡ implied (tableOf (cellsRead (wordIn (now (w .entry))))) (notAfter (1 + m - 1) (wordIn (now (w .entry)) 2) ∷ allEndBy (wordIn (now (w .entry)) 2) 1 m (linesOf (linesRead (wordIn (now (w .entry)))))) ⌝ }
 {
     are_over(&w[1604..], w[2], 1, m, w)
 }

@@ -16,7 +16,7 @@ use Rattle.plain.specs.Plain.{noUse}
 use Rattle.lines.specs.declared.Line.{Line}
 use Rattle.lines.specs.Held.{noJob, noLine}
 use Rattle.boardwords.specs.declared.Board.{Board}
-use Rattle.boardwords.specs.Words.{wordIn, boardIn, jobAt, useAt, lineAt, linesFrom, cellAt}
+use Rattle.boardwords.specs.Words.{wordIn, boardIn, jobAt, useAt, lineAt, linesRead, cellAt}
 use Rattle.boardwords.specs.Codec.{counted, jobWords, useWords, lineWords, jobsWords, linesWords, cellsWords, headWords, frameWords, wordsOf, Writable}
 use Rattle.lists.proofs.Build.{past, build-same, build-at, build-back}
 use Rattle.boardwords.proofs.Blocks.{joined-at}
@@ -129,7 +129,7 @@ module _ (b : Board) where
 
   pub lines-back :
       length (b .lines) ≡ 16 → ((k : ℕ) → k < 16 → length (getD (b .lines) k noLine .uses) ≡ 32)
-      → ((k : ℕ) → k < 16 → getD (b .lines) k noLine .count ≤ 4294967295) → linesFrom (wordIn (wordsOf b)) ≡ b .lines
+      → ((k : ℕ) → k < 16 → getD (b .lines) k noLine .count ≤ 4294967295) → linesRead (wordIn (wordsOf b)) ≡ b .lines
   lines-back many full small =
       build-same (lineAt (wordIn (wordsOf b))) (λ k. getD (b .lines) k noLine) 16 (λ k h. line-back k h (full k h) (small k h))
       ∙ build-back (b .lines) 16 noLine many

@@ -5,7 +5,7 @@
 --   joined-at       element i of block k
 use Prim.Native.Nat.{ℕ, zero, suc, _+_, _*_, _<_}
 use mathlib.Core.Path.{_≡_, refl, sym, _∙_, ap, ap₂}
-use mathlib.Core.List.{List, [], _++_}
+use mathlib.Core.List.{List, _++_}
 use lib.ListN.{length, getD, length-append, List·getD-append}
 use native.Mathlib.Decide.{decLt}
 use native.Mathlib.Omega.{arith}

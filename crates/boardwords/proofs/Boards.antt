@@ -4,9 +4,9 @@
 --   same-line, same-lines   equal words give equal lines
 --   same-words       equal words below 5,829 give equal boards
 --   decoded-whole, decoded-zeros   the board of bytes as many as a board has, and of others
-use Prim.Native.Nat.{ℕ, zero, suc, _+_, _*_, _<_, _≤_}
-use mathlib.Core.Path.{_≡_, refl, _∙_, ap, ap₂}
-use mathlib.Core.Bool.{Bool, true, false, _&&_}
+use Prim.Native.Nat.{ℕ, _+_, _*_, _<_, _≤_}
+use mathlib.Core.Path.{_≡_, refl, _∙_, ap}
+use mathlib.Core.Bool.{true, false}
 use mathlib.Core.List.{List}
 use native.Mathlib.Omega.{arith}
 use lib.ListN.{length, getD, replicate}
@@ -19,28 +19,28 @@ use Rattle.lines.proofs.Lists.{length-held}
 use Rattle.lists.specs.Loops.{build}
 use Rattle.lists.proofs.AllBelow.{allBelow-same}
 use Rattle.boardwords.specs.declared.Board.{Board}
-use Rattle.boardwords.specs.Words.{Words, wordAt, wordIn, zeros, useFrom, lineFrom, jobAt, useAt, lineAt, linesFrom, cellAt, boardFrom, boardIn, allMarked, marked, decoded}
+use Rattle.boardwords.specs.Words.{Words, wordAt, wordIn, zeros, useRead, lineRead, jobAt, useAt, lineAt, linesRead, cellAt, boardRead, boardIn, allMarked, isMarked, decoded}
 use Rattle.lists.proofs.Build.{build-length, build-replicate, build-same, build-at}
 
-pub no-line-is : (u : Use) → u ≡ useFrom zeros 0 → record { count = 0; uses = replicate 32 u } ≡ lineFrom zeros 0
-no-line-is u e = ap (λ (l : List Use). record { count = 0; uses = l }) (ap (replicate 32) e ∙ build-replicate 32 (useFrom zeros 0))
+pub no-line-is : (u : Use) → u ≡ useRead zeros 0 → record { count = 0; uses = replicate 32 u } ≡ lineRead zeros 0
+no-line-is u e = ap (λ (l : List Use). record { count = 0; uses = l }) (ap (replicate 32) e ∙ build-replicate 32 (useRead zeros 0))
 
 -- ---- lines read from words
 
-pub line-of : (w : Words) (r : ℕ) → r < 16 → getD (linesFrom w) r noLine ≡ lineAt w r
+pub line-of : (w : Words) (r : ℕ) → r < 16 → getD (linesRead w) r noLine ≡ lineAt w r
 line-of w r h = build-at (lineAt w) 16 r noLine h
 
 module _ (w : Words) (at : ℕ) where
-  pub held-size : w at ≤ 32 → length (lineOf (lineFrom w at)) ≡ w at
-  held-size h = length-held (w at) (lineFrom w at .uses) (omega (arith, build-length (useAt w (at + 1)) 32))
+  pub held-size : w at ≤ 32 → length (lineOf (lineRead w at)) ≡ w at
+  held-size h = length-held (w at) (lineRead w at .uses) (omega (arith, build-length (useAt w (at + 1)) 32))
 
-  pub held-use : (k : ℕ) → k < w at → k < 32 → getD (lineOf (lineFrom w at)) k noUse ≡ useAt w (at + 1) k
-  held-use k h room = getD-take (w at) (lineFrom w at .uses) k noUse h ∙ build-at (useAt w (at + 1)) 32 k noUse room
+  pub held-use : (k : ℕ) → k < w at → k < 32 → getD (lineOf (lineRead w at)) k noUse ≡ useAt w (at + 1) k
+  held-use k h room = getD-take (w at) (lineRead w at .uses) k noUse h ∙ build-at (useAt w (at + 1)) 32 k noUse room
 
 -- ---- the same words
 
 module _ (v w : Words) where
-  pub same-line : (at : ℕ) → ((k : ℕ) → at ≤ k → k < at + 97 → v k ≡ w k) → lineFrom v at ≡ lineFrom w at
+  pub same-line : (at : ℕ) → ((k : ℕ) → at ≤ k → k < at + 97 → v k ≡ w k) → lineRead v at ≡ lineRead w at
   same-line at same =
       rw (same at (omega arith) (omega arith), build-same (useAt v (at + 1)) (useAt w (at + 1)) 32 one) refl
     where
@@ -49,7 +49,7 @@ module _ (v w : Words) where
           let to = at + 1 + 3 * m in
           rw (same to (omega arith) (omega arith), same (to + 1) (omega arith) (omega arith), same (to + 2) (omega arith) (omega arith)) refl
 
-  pub same-lines : ((k : ℕ) → 52 ≤ k → k < 1604 → v k ≡ w k) → linesFrom v ≡ linesFrom w
+  pub same-lines : ((k : ℕ) → 52 ≤ k → k < 1604 → v k ≡ w k) → linesRead v ≡ linesRead w
   same-lines same = build-same (lineAt v) (lineAt w) 16 (λ k h. same-line (52 + 97 * k) (λ i a b. same i (omega arith) (omega arith)))
 
 module _ (v w : Words) (same : (k : ℕ) → k < 5829 → v k ≡ w k) where
@@ -60,10 +60,10 @@ module _ (v w : Words) (same : (k : ℕ) → k < 5829 → v k ≡ w k) where
   same-marks : allMarked v ≡ allMarked w
   unfolding allMarked
   same-marks =
-      allBelow-same (λ k. marked (v 3) k (v (6 + 3 * k))) (λ k. marked (w 3) k (w (6 + 3 * k))) 16
+      allBelow-same (λ k. isMarked (v 3) k (v (6 + 3 * k))) (λ k. isMarked (w 3) k (w (6 + 3 * k))) 16
       (λ k h. rw (same 3 (omega arith), same (6 + 3 * k) (omega arith)) refl)
 
-  pub same-words : boardFrom v ≡ boardFrom w
+  pub same-words : boardRead v ≡ boardRead w
   same-words =
       rw (
         same-marks,
@@ -84,7 +84,7 @@ module _ (s : List ℕ) where
       → record { whole = true; board = b } ≡ decoded s
   unfolding decoded
   decoded-whole l b h el eb =
-      let is : b ≡ boardFrom (wordAt s) =
+      let is : b ≡ boardRead (wordAt s) =
       eb ∙ (ap boardIn el ∙ same-words (wordIn (build (wordAt s) 5829)) (wordAt s) (λ k lt. build-at (wordAt s) 5829 k 0 lt)) in
       rw (eq-eqb (length s) 23316 h, is) refl
 
@@ -92,7 +92,7 @@ module _ (s : List ℕ) where
       (b : Board) → (length s ≡ 23316 → ⊥) → b ≡ boardIn (replicate 5829 0) → record { whole = false; board = b } ≡ decoded s
   unfolding decoded
   decoded-zeros b h eb =
-      let is : b ≡ boardFrom zeros =
+      let is : b ≡ boardRead zeros =
       eb ∙ same-words (wordIn (replicate 5829 0)) zeros
       (λ k lt. ap (λ (l : List ℕ). getD l k 0) (build-replicate 5829 0) ∙ build-at (λ i. 0) 5829 k 0 lt) in
       rw (ne-eqb (length s) 23316 h, is) refl

@@ -16,7 +16,7 @@ use Rattle.plain.specs.Plain.{noUse}
 use Rattle.lines.specs.Held.{noJob, noLine}
 use Rattle.lists.proofs.AllBelow.{allBelow-of}
 use Rattle.lists.specs.Loops.{build}
-use Rattle.boardwords.specs.Words.{Words, wordIn, boardIn, jobAt, jobsFrom, useAt, usesFrom, lineAt, linesFrom, cellAt, cellsFrom, marked, allMarked, boardFrom}
+use Rattle.boardwords.specs.Words.{Words, wordIn, boardIn, jobAt, jobsRead, useAt, usesRead, lineAt, linesRead, cellAt, cellsRead, isMarked, allMarked, boardRead}
 use Rattle.boardwords.specs.Codec.{counted, markOf, jobWords, useWords, usesWords, lineWords, jobsWords, linesWords, cellsWords, headWords, frameWords, wordsOf}
 use Rattle.lists.proofs.Build.{build-same, build-at, build-back, build-add}
 use Rattle.boardwords.proofs.Blocks.{joined-same, joined-blocks}
@@ -54,7 +54,7 @@ or-true true e = refl
 or-true false e = e
 
 pub marks-hold : (w : Words) → ((k : ℕ) → k < 16 → w (6 + 3 * k) ≤ 1) → allMarked w ≡ true
-unfolding allMarked marked
+unfolding allMarked isMarked
 marks-hold w h =
     allBelow-of (λ k. leb (w 3) k || leb (w (6 + 3 * k)) 1) 16 (λ k l. or-true (leb (w 3) k) (le-leb (w (6 + 3 * k)) 1 (h k l)))
 
@@ -83,15 +83,15 @@ module _ (w : Words) where
       (ap w {x = p + 3 * k + 2} {y = p + (3 * k + 2)} (omega arith))
       ∙ sym (build-three (λ i. w (p + (3 * k + i))))
 
-  pub uses-read : (p : ℕ) → usesWords (usesFrom w p) ≡ build (λ j. w (p + j)) 96
+  pub uses-read : (p : ℕ) → usesWords (usesRead w p) ≡ build (λ j. w (p + j)) 96
   uses-read p =
-      joined-same (λ k. useWords (getD (usesFrom w p) k noUse)) (λ k. build (λ i. w (p + (3 * k + i))) 3) 32
+      joined-same (λ k. useWords (getD (usesRead w p) k noUse)) (λ k. build (λ i. w (p + (3 * k + i))) 3) 32
       (λ k h. ap useWords (build-at (useAt w p) 32 k noUse h) ∙ block p k)
       ∙ joined-blocks (λ j. w (p + j)) 3 32
 
-  jobs-read : ((k : ℕ) → k < 16 → w (6 + 3 * k) ≤ 1) → jobsWords (jobsFrom w) ≡ build (λ j. w (4 + j)) 48
+  jobs-read : ((k : ℕ) → k < 16 → w (6 + 3 * k) ≤ 1) → jobsWords (jobsRead w) ≡ build (λ j. w (4 + j)) 48
   jobs-read marks =
-      joined-same (λ k. jobWords (getD (jobsFrom w) k noJob)) (λ k. build (λ i. w (4 + (3 * k + i))) 3) 16
+      joined-same (λ k. jobWords (getD (jobsRead w) k noJob)) (λ k. build (λ i. w (4 + (3 * k + i))) 3) 16
       (λ k h. ap jobWords (build-at (jobAt w) 16 k noJob h) ∙ three refl refl (mark-back (w (4 + 3 * k + 2)) (small k h)) ∙ block 4 k)
       ∙ joined-blocks (λ j. w (4 + j)) 3 16
     where
@@ -107,17 +107,17 @@ module _ (w : Words) where
       ∙ ap (λ (l : List ℕ). l ++ build (λ j. w (52 + (97 * k + (1 + j)))) 96) (sym (build-one (λ i. w (52 + (97 * k + i)))))
       ∙ sym (build-add (λ i. w (52 + (97 * k + i))) 1 96)
 
-  pub lines-read : ((k : ℕ) → k < 16 → w (52 + 97 * k) ≤ 4294967295) → linesWords (linesFrom w) ≡ build (λ j. w (52 + j)) 1552
+  pub lines-read : ((k : ℕ) → k < 16 → w (52 + 97 * k) ≤ 4294967295) → linesWords (linesRead w) ≡ build (λ j. w (52 + j)) 1552
   lines-read h =
-      joined-same (λ k. lineWords (getD (linesFrom w) k noLine)) (λ k. build (λ i. w (52 + (97 * k + i))) 97) 16
+      joined-same (λ k. lineWords (getD (linesRead w) k noLine)) (λ k. build (λ i. w (52 + (97 * k + i))) 97) 16
       (λ k l. ap lineWords (build-at (lineAt w) 16 k noLine l) ∙ line-read k (h k l))
       ∙ joined-blocks (λ j. w (52 + j)) 97 16
 
-  cells-read : cellsWords (cellsFrom w) ≡ build (λ j. w (1604 + j)) 4225
-  cells-read = build-same (λ k. getD (cellsFrom w) k 0) (λ j. w (1604 + j)) 4225 (λ k h. build-at (cellAt w) 4225 k 0 h)
+  cells-read : cellsWords (cellsRead w) ≡ build (λ j. w (1604 + j)) 4225
+  cells-read = build-same (λ k. getD (cellsRead w) k 0) (λ j. w (1604 + j)) 4225 (λ k h. build-at (cellAt w) 4225 k 0 h)
 
   head-read :
-      ((k : ℕ) → k < 16 → w (6 + 3 * k) ≤ 1) → ((k : ℕ) → w k ≤ 4294967295) → headWords (boardFrom w) ≡ build w 4
+      ((k : ℕ) → k < 16 → w (6 + 3 * k) ≤ 1) → ((k : ℕ) → w k ≤ 4294967295) → headWords (boardRead w) ≡ build w 4
   head-read marks h = rw (marks-hold w marks, counted-is (w 3) (h 3)) (sym (build-four w))
 
   -- the words of the frame, in three parts
@@ -130,12 +130,12 @@ module _ (w : Words) where
       (build-same (λ j. w (4 + (48 + j))) (λ j. w (52 + j)) 1552 (λ j l. ap w (omega arith))))
 
   frame-read :
-      ((k : ℕ) → k < 16 → w (6 + 3 * k) ≤ 1) → ((k : ℕ) → w k ≤ 4294967295) → frameWords (boardFrom w) ≡ build w 1604
+      ((k : ℕ) → k < 16 → w (6 + 3 * k) ≤ 1) → ((k : ℕ) → w k ≤ 4294967295) → frameWords (boardRead w) ≡ build w 1604
   unfolding frameWords
   frame-read marks h =
       ap₂ (λ (l m : List ℕ). l ++ m) (head-read marks h) (ap₂ (λ (l m : List ℕ). l ++ m) (jobs-read marks) (lines-read (λ k l. h (52 + 97 * k)))) ∙ sym parts
 
-  all-read : ((k : ℕ) → k < 16 → w (6 + 3 * k) ≤ 1) → ((k : ℕ) → w k ≤ 4294967295) → wordsOf (boardFrom w) ≡ build w 5829
+  all-read : ((k : ℕ) → k < 16 → w (6 + 3 * k) ≤ 1) → ((k : ℕ) → w k ≤ 4294967295) → wordsOf (boardRead w) ≡ build w 5829
   unfolding wordsOf
   all-read marks h = ap₂ (λ (l m : List ℕ). l ++ m) (frame-read marks h) cells-read ∙ sym (build-add w 1604 4225)
 

@@ -13,7 +13,7 @@ use native.Mathlib.Omega.{arith}
 use lib.ListN.{length, getD, take, drop, length-append, length-drop, length-take, take-append-drop, drop-of-length-le, List·getD-append}
 use lib.Seq.{take-all, ext-getD, getD-drop, getD-take}
 use Rattle.boardwords.specs.declared.Board.{Board}
-use Rattle.boardwords.specs.Words.{wordIn, cellAt, cellsFrom}
+use Rattle.boardwords.specs.Words.{wordIn, cellAt, cellsRead}
 use Rattle.boardwords.specs.Codec.{frameWords, wordsOf, put}
 use Rattle.lists.proofs.Build.{build-length, build-at, build-back}
 use Rattle.boardwords.proofs.Put.{length-frame, put-front}
@@ -36,10 +36,10 @@ module _ (w : List ℕ) (len : length w ≡ 5829) where
   front : length (take 1604 w) ≡ 1604
   front = omega (arith, length-take 1604 w)
 
-  pub cells-lent : lentTable w ≡ cellsFrom (wordIn w)
+  pub cells-lent : lentTable w ≡ cellsRead (wordIn w)
   cells-lent =
       table-is
-      ∙ ext-getD 0 (drop 1604 w) (cellsFrom (wordIn w)) (omega (arith, length-drop 1604 w, build-length (cellAt (wordIn w)) 4225))
+      ∙ ext-getD 0 (drop 1604 w) (cellsRead (wordIn w)) (omega (arith, length-drop 1604 w, build-length (cellAt (wordIn w)) 4225))
       (λ k h. getD-drop 1604 w k 0 ∙ sym (build-at (cellAt (wordIn w)) 4225 k 0 (omega (arith, length-drop 1604 w))))
 
   pub length-lent : length (lentTable w) ≡ 4225

@@ -10,7 +10,7 @@ ghost use mathlib.Core.Path.{_≡_};
 ghost use mathlib.Core.Bool.{cond};
 ghost use Prim.Native.Nat.{_+_, _≤_, _<_};
 ghost use lib.ListN.{length};
-ghost use Rattle.boardwords.specs.Words.{wordIn, jobFrom, jobsFrom, useFrom, usesFrom, lineFrom, linesFrom, cellsFrom, marked, allMarked, heldJobs, boardIn, zeros};
+ghost use Rattle.boardwords.specs.Words.{wordIn, jobRead, jobsRead, useRead, usesRead, lineRead, linesRead, cellsRead, isMarked, allMarked, heldJobs, boardIn, zeros};
 
 // ---- words, jobs, lines and cells, each from the word where it begins
 
@@ -23,7 +23,7 @@ fn word(s: &[u32], k: usize) -> u32
 
 pub fn read_job(s: &[u32], at: usize) -> Job
     requires { ⌜ at + 3 ≤ length (now s) ⌝ }
-    ensures { λ r. ⌜ r ≡ jobFrom (wordIn (now (s .entry))) at ⌝ }
+    ensures { λ r. ⌜ r ≡ jobRead (wordIn (now (s .entry))) at ⌝ }
 {
     Job {
         points: word(s, at),
@@ -34,7 +34,7 @@ pub fn read_job(s: &[u32], at: usize) -> Job
 
 fn jobs(s: &[u32]) -> [Job; 16]
     requires { ⌜ 1604 ≤ length (now s) ⌝ }
-    ensures { λ r. ⌜ r ≡ jobsFrom (wordIn (now (s .entry))) ⌝ }
+    ensures { λ r. ⌜ r ≡ jobsRead (wordIn (now (s .entry))) ⌝ }
 {
     let mut next = [no_job(); 16];
     for k in 0..16 {
@@ -56,7 +56,7 @@ pub fn read_jobs(s: &[u32]) -> Jobs
 
 pub fn read_use(s: &[u32], at: usize) -> Use
     requires { ⌜ at + 3 ≤ length (now s) ⌝ }
-    ensures { λ r. ⌜ r ≡ useFrom (wordIn (now (s .entry))) at ⌝ }
+    ensures { λ r. ⌜ r ≡ useRead (wordIn (now (s .entry))) at ⌝ }
 {
     Use {
         point: word(s, at),
@@ -67,7 +67,7 @@ pub fn read_use(s: &[u32], at: usize) -> Use
 
 fn uses(s: &[u32], at: usize) -> [Use; 32]
     requires { ⌜ at + 96 ≤ length (now s) ⌝ }
-    ensures { λ r. ⌜ r ≡ usesFrom (wordIn (now (s .entry))) at ⌝ }
+    ensures { λ r. ⌜ r ≡ usesRead (wordIn (now (s .entry))) at ⌝ }
 {
     let mut next = [no_use(); 32];
     for k in 0..32 {
@@ -78,7 +78,7 @@ fn uses(s: &[u32], at: usize) -> [Use; 32]
 
 fn read_line(s: &[u32], at: usize) -> Line
     requires { ⌜ at + 97 ≤ length (now s) ⌝ }
-    ensures { λ r. ⌜ r ≡ lineFrom (wordIn (now (s .entry))) at ⌝ }
+    ensures { λ r. ⌜ r ≡ lineRead (wordIn (now (s .entry))) at ⌝ }
 {
     Line {
         count: word(s, at) as usize,
@@ -88,7 +88,7 @@ fn read_line(s: &[u32], at: usize) -> Line
 
 fn read_lines(s: &[u32]) -> [Line; 16]
     requires { ⌜ 1604 ≤ length (now s) ⌝ }
-    ensures { λ r. ⌜ r ≡ linesFrom (wordIn (now (s .entry))) ⌝ }
+    ensures { λ r. ⌜ r ≡ linesRead (wordIn (now (s .entry))) ⌝ }
 {
     let mut next = [no_line(); 16];
     for k in 0..16 {
@@ -99,7 +99,7 @@ fn read_lines(s: &[u32]) -> [Line; 16]
 
 fn cells(s: &[u32]) -> [u32; 4225]
     requires { ⌜ length (now s) ≡ 5829 ⌝ }
-    ensures { λ r. ⌜ r ≡ cellsFrom (wordIn (now (s .entry))) ⌝ }
+    ensures { λ r. ⌜ r ≡ cellsRead (wordIn (now (s .entry))) ⌝ }
 {
     let mut next = [0u32; 4225];
     for k in 0..4225 {
@@ -111,7 +111,7 @@ fn cells(s: &[u32]) -> [u32; 4225]
 // ---- a line with 0 everywhere
 
 fn no_line() -> Line
-    ensures { λ r. ⌜ r ≡ lineFrom zeros 0 ⌝ }
+    ensures { λ r. ⌜ r ≡ lineRead zeros 0 ⌝ }
 {
     Line {
         count: 0,
@@ -123,7 +123,7 @@ fn no_line() -> Line
 
 // A job in use is marked sent or unsent, by 1 or 0. No one looks at the others.
 fn is_marked(count: usize, k: usize, mark: u32) -> bool
-    ensures { λ r. ⌜ r ≡ marked count k mark ⌝ }
+    ensures { λ r. ⌜ r ≡ isMarked count k mark ⌝ }
 {
     (count <= k) | (mark <= 1)
 }

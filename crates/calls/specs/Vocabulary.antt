@@ -1,6 +1,6 @@
 -- The words of a log as bytes. Assumes nothing.
 --   nameOf w     how the word w is written
---   Reads s w    w is what s says: the word that is written so, or Unknown where none is
+--   Says s w     w is what s says: the word that is written so, or Unknown where none is
 use Prim.Native.Nat.{ℕ}
 use mathlib.Core.Path.{_≡_}
 use mathlib.Core.Logic.{_⊎_}
@@ -26,5 +26,5 @@ nameOf Table = 116 ∷ 97 ∷ 98 ∷ 108 ∷ 101 ∷ []
 nameOf State = 115 ∷ 116 ∷ 97 ∷ 116 ∷ 101 ∷ []
 nameOf Unknown = []
 
-abbrev pub Reads : List ℕ → Word → Type 0
-Reads s w = (s ≡ nameOf w) ⊎ ((w ≡ Unknown) × ((v : Word) → s ≡ nameOf v → v ≡ Unknown))
+abbrev pub Says : List ℕ → Word → Type 0
+Says s w = (s ≡ nameOf w) ⊎ ((w ≡ Unknown) × ((v : Word) → s ≡ nameOf v → v ≡ Unknown))

@@ -1,5 +1,5 @@
 // The words that a line can begin with.
-ghost use Rattle.calls.specs.Vocabulary.{Reads};
+ghost use Rattle.calls.specs.Vocabulary.{Says};
 use check::same;
 
 pub enum Word {
@@ -21,7 +21,7 @@ pub enum Word {
 }
 
 pub fn word_of(s: &[u8]) -> Word
-    ensures { λ r. ⌜ Reads (now (s .entry)) r ⌝ }
+    ensures { λ r. ⌜ Says (now (s .entry)) r ⌝ }
 {
     if same(s, b"list") {
         return Word::List;

@@ -42,7 +42,7 @@ use Rattle.chart.specs.Chart.{
   beginOf,
   columnOf,
   covers,
-  endOf,
+  endTime,
   firstFit,
   firstTime,
   fits,
@@ -52,7 +52,7 @@ use Rattle.chart.specs.Chart.{
   lastTime,
   leftOf,
   linesEnd,
-  markOf,
+  markAt,
   rightOf,
   scaleOf,
   scaled,
@@ -96,17 +96,17 @@ mark-over b mark m r t e = rw t e
 pub mark-left : (b : Bool) (mark m : ℕ) → b ≡ false → m ≡ cond b mark m
 mark-left b mark m t = rw t
 
-module _ (c : Table) (js : List Job) (us : List Use) (p q z k m : ℕ) (run : markOf c js (drop k us) p q m ≡ markOf c js us p q z) where
+module _ (c : Table) (js : List Job) (us : List Use) (p q z k m : ℕ) (run : markAt c js (drop k us) p q m ≡ markAt c js us p q z) where
   pub mark-next :
       (u : Use) (mark : ℕ) → drop k us ≡ u ∷ drop (k + 1) us → mark ≡ cond (covers c p q u) (glyphOf (jobOf js (u .point))) m
-      → markOf c js (drop (k + 1) us) p q mark ≡ markOf c js us p q z
-  unfolding markOf
+      → markAt c js (drop (k + 1) us) p q mark ≡ markAt c js us p q z
+  unfolding markAt
   mark-next u mark next e =
-      ap (markOf c js (drop (k + 1) us) p q) e ∙ sym (ap (λ (r : List Use). markOf c js r p q m) next) ∙ run
+      ap (markAt c js (drop (k + 1) us) p q) e ∙ sym (ap (λ (r : List Use). markAt c js r p q m) next) ∙ run
 
-  pub mark-end : drop k us ≡ [] → m ≡ markOf c js us p q z
-  unfolding markOf
-  mark-end over = sym (ap (λ (r : List Use). markOf c js r p q m) over) ∙ run
+  pub mark-end : drop k us ≡ [] → m ≡ markAt c js us p q z
+  unfolding markAt
+  mark-end over = sym (ap (λ (r : List Use). markAt c js r p q m) over) ∙ run
 
 -- ---- the span
 
@@ -120,7 +120,7 @@ module _ (c : Table) (t k m e : ℕ) (next : e ≡ earliest c (k + 1)) where
   last-next run = (λ i. max (run i) ((next ∙ ap (earliest c) (add-one k)) i)) ∙ ap (λ (n : ℕ). lastTime c n t) (sym (add-one k))
 
 module _ (c : Table) (us : List Use) (t k m : ℕ) (run : lastEnd c (drop k us) m ≡ lastEnd c us t) where
-  pub end-next : (u : Use) (e : ℕ) → drop k us ≡ u ∷ drop (k + 1) us → e ≡ max m (endOf c u) → lastEnd c (drop (k + 1) us) e ≡ lastEnd c us t
+  pub end-next : (u : Use) (e : ℕ) → drop k us ≡ u ∷ drop (k + 1) us → e ≡ max m (endTime c u) → lastEnd c (drop (k + 1) us) e ≡ lastEnd c us t
   unfolding lastEnd
   end-next u e next h = ap (lastEnd c (drop (k + 1) us)) h ∙ sym (ap (λ (r : List Use). lastEnd c r m) next) ∙ run
 

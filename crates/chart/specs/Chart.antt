@@ -1,9 +1,9 @@
 -- The picture of a board: what it shows, and where. c is the table that the board's cells hold, js its jobs, us a line.
 --   jobOf js x          the place of the job that the point x belongs to
---   startOf, endOf      when a use starts and ends at its earliest
+--   startTime, endTime  when a use starts and ends at its earliest
 --   covers c p q u      the use u is under way at some time from p on and before q
 --   glyphOf k           the mark of the job at place k
---   markOf c js us p q z   the mark of the last of the uses us that covers the times from p on and before q; z where none does
+--   markAt c js us p q z   the mark of the last of the uses us that covers the times from p on and before q; z where none does
 --   firstTime, lastTime, lastEnd, linesEnd   the least and the largest of a time t and of the earliest times of points or ends of uses
 --   leftOf, rightOf     the span of the picture, from the clock and the table
 --   widths, widthOf     the round widths of a column, and the narrowest with which the picture has at most 80 columns
@@ -34,22 +34,22 @@ jobOf [] x = 0
 jobOf (j ∷ js) x = cond (leb x (j .points)) 0 (suc (jobOf js (x - j .points)))
 
 -- "An allocation starts at its step's start plus its offset, and ends its length later."
-abbrev pub startOf : Table → Use → ℕ
-startOf c u = earliest c (u .point) + u .offset
+abbrev pub startTime : Table → Use → ℕ
+startTime c u = earliest c (u .point) + u .offset
 
-abbrev pub endOf : Table → Use → ℕ
-endOf c u = earliest c (u .point) + Plain.endOf u
+abbrev pub endTime : Table → Use → ℕ
+endTime c u = earliest c (u .point) + Plain.endOf u
 
 abbrev pub covers : Table → ℕ → ℕ → Use → Bool
-covers c p q u = ltb (startOf c u) q && ltb p (endOf c u)
+covers c p q u = ltb (startTime c u) q && ltb p (endTime c u)
 
 -- 0 to 9, then a to f
 abbrev pub glyphOf : ℕ → ℕ
 glyphOf k = cond (ltb k 10) (48 + k) (87 + k)
 
-unfoldable pub markOf : Table → List Job → List Use → ℕ → ℕ → ℕ → ℕ
-markOf c js [] p q z = z
-markOf c js (u ∷ us) p q z = markOf c js us p q (cond (covers c p q u) (glyphOf (jobOf js (u .point))) z)
+unfoldable pub markAt : Table → List Job → List Use → ℕ → ℕ → ℕ → ℕ
+markAt c js [] p q z = z
+markAt c js (u ∷ us) p q z = markAt c js us p q (cond (covers c p q u) (glyphOf (jobOf js (u .point))) z)
 
 -- ---- the span
 
@@ -64,7 +64,7 @@ lastTime c (suc n) t = max (lastTime c n t) (earliest c (suc n))
 
 unfoldable pub lastEnd : Table → List Use → ℕ → ℕ
 lastEnd c [] t = t
-lastEnd c (u ∷ us) t = lastEnd c us (max t (endOf c u))
+lastEnd c (u ∷ us) t = lastEnd c us (max t (endTime c u))
 
 unfoldable pub linesEnd : Table → List Line → ℕ → ℕ
 linesEnd c [] t = t

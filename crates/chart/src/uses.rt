@@ -9,7 +9,7 @@ ghost use Prim.Native.Nat.{_≤_, _<_};
 ghost use lib.ListN.{length};
 ghost use Rattle.lines.specs.Held.{jobsOf, lineOf};
 ghost use Rattle.gaps.specs.Cells.{tableOf};
-ghost use Rattle.chart.specs.Chart.{OnTable, covers, endOf, glyphOf, jobOf, markOf, startOf};
+ghost use Rattle.chart.specs.Chart.{OnTable, covers, endTime, glyphOf, jobOf, markAt, startTime};
 
 pub fn wide(n: u32) -> u64
     ensures { λ r. ⌜ r ≡ n ⌝ }
@@ -46,14 +46,14 @@ pub fn glyph(place: usize) -> u8
 
 fn start(t: &[u32], u: Use) -> u64
     requires { ⌜ (length (now t) ≡ 4225) × (u .point ≤ 64) ⌝ }
-    ensures { λ r. ⌜ (r ≡ startOf (tableOf (now (t .entry))) u) × (r < 8589934592) ⌝ }
+    ensures { λ r. ⌜ (r ≡ startTime (tableOf (now (t .entry))) u) × (r < 8589934592) ⌝ }
 {
     wide(earliest(t, u.point as usize)) + wide(u.offset)
 }
 
 pub fn end(t: &[u32], u: Use) -> u64
     requires { ⌜ (length (now t) ≡ 4225) × (u .point ≤ 64) ⌝ }
-    ensures { λ r. ⌜ r ≡ endOf (tableOf (now (t .entry))) u ⌝ }
+    ensures { λ r. ⌜ r ≡ endTime (tableOf (now (t .entry))) u ⌝ }
 {
     start(t, u) + wide(u.length)
 }
@@ -81,7 +81,7 @@ fn mark_over(t: &[u32], jobs: Jobs, u: Use, from: u64, to: u64, mark: u8) -> u8
 // share one: it shows the later in the line.
 pub fn mark_at(t: &[u32], jobs: Jobs, line: Line, from: u64, to: u64) -> u8
     requires { ⌜ (length (now t) ≡ 4225) × (jobs .count ≤ 16) × OnTable line ⌝ }
-    ensures { λ r. ⌜ r ≡ markOf (tableOf (now (t .entry))) (jobsOf jobs) (lineOf line) from to 32 ⌝ }
+    ensures { λ r. ⌜ r ≡ markAt (tableOf (now (t .entry))) (jobsOf jobs) (lineOf line) from to 32 ⌝ }
 {
     let mut mark = b' ';
     for k in 0..line.count {

@@ -21,7 +21,7 @@ use Rattle.plain.specs.Rules.{Times, RuleOn, renamed}
 use Rattle.plain.proofs.Rules.{kept-ext, kept-renamed}
 use Rattle.stn.specs.Table.{Table, Within, pick, oldNumber}
 use Rattle.stn.proofs.Pick.{old-low, old-high, new-lt, new-positive, Number, leaves, stays, number, goes-old, over-old, spread, spread-stays}
-use Rattle.rulebook.specs.Book.{Point, live, gone, joined, Possible, left}
+use Rattle.rulebook.specs.Book.{Point, live, gone, completed, Possible, left}
 use Rattle.demands.specs.Model.{book}
 use Rattle.demands.specs.Beside.{Each, StillJobs, LineIn, LinesIn}
 use Rattle.demands.proofs.Lines.{within-append}
@@ -52,25 +52,25 @@ module _ (m : ℕ) (c : Table) (u g : Times) where
   abbrev all : Times
   all = spread 1 m c u
 
-  left-times : (x : Point) → joined all g x ≡ joined u (behind m all g) (left m x)
-  unfolding joined left
+  left-times : (x : Point) → completed all g x ≡ completed u (behind m all g) (left m x)
+  unfolding completed left
   left-times (gone k) = sym (behind-old m all g k)
   left-times (live x) = go (number 1 m x)
     where
-      go : Number 1 m x → all x ≡ joined u (behind m all g) (left m (live x))
-      go (leaves lo hi e) = sym (behind-new m all g x lo hi) ∙ ap (joined u (behind m all g)) (sym (left-goes m x e))
-      go (stays o e) = spread-stays 1 m c u x e ∙ ap (joined u (behind m all g)) (sym (left-stays m x e))
+      go : Number 1 m x → all x ≡ completed u (behind m all g) (left m (live x))
+      go (leaves lo hi e) = sym (behind-new m all g x lo hi) ∙ ap (completed u (behind m all g)) (sym (left-goes m x e))
+      go (stays o e) = spread-stays 1 m c u x e ∙ ap (completed u (behind m all g)) (sym (left-stays m x e))
 
 -- the times before, of a timetable after: each point has the time of its new name
 module _ (m : ℕ) (u g : Times) where
-  before-times : (x : Point) → joined u g (left m x) ≡ joined (λ k. joined u g (left m (live k))) (λ k. g (k + m)) x
-  unfolding joined left
+  before-times : (x : Point) → completed u g (left m x) ≡ completed (λ k. completed u g (left m (live k))) (λ k. g (k + m)) x
+  unfolding completed left
   before-times (live k) = refl
   before-times (gone k) = refl
 
-  before-old : (k : ℕ) → joined u g (left m (live (oldNumber 1 m k))) ≡ u k
-  unfolding joined
-  before-old k = ap (joined u g) (left-stays m (oldNumber 1 m k) (goes-old 1 m k)) ∙ ap u (over-old 1 m k)
+  before-old : (k : ℕ) → completed u g (left m (live (oldNumber 1 m k))) ≡ u k
+  unfolding completed
+  before-old k = ap (completed u g) (left-stays m (oldNumber 1 m k) (goes-old 1 m k)) ∙ ap u (over-old 1 m k)
 
 module _ (m : ℕ) (s next : State) (c : Table) (rs : List (RuleOn Point)) (u : Times) where
   pub left-possible : Possible (book s rs) (spread 1 m c u) → u 0 ≡ pos 0 → Possible (book next (map (renamed (left m)) rs)) u
@@ -78,19 +78,19 @@ module _ (m : ℕ) (s next : State) (c : Table) (rs : List (RuleOn Point)) (u : 
   left-possible p o =
       let g = p .1 .0 in
       let after : Times = behind m (spread 1 m c u) g in
-      let kept = kept-ext (joined (spread 1 m c u) g) (λ x. joined u after (left m x)) (left-times m c u g) rs (p .1 .1) in
-      (o, (after, kept-renamed (left m) (joined u after) rs .1 kept))
+      let kept = kept-ext (completed (spread 1 m c u) g) (λ x. completed u after (left m x)) (left-times m c u g) rs (p .1 .1) in
+      (o, (after, kept-renamed (left m) (completed u after) rs .1 kept))
 
   pub before-possible :
       Possible (book next (map (renamed (left m)) rs)) u → (v : Times) × Possible (book s rs) v × ((k : ℕ) → v (oldNumber 1 m k) ≡ u k)
   unfolding Possible
   before-possible p =
       let g = p .1 .0 in
-      let v : Times = λ k. joined u g (left m (live k)) in
+      let v : Times = λ k. completed u g (left m (live k)) in
       let origin : v 0 ≡ pos 0 = subst (λ (k : ℕ). v k ≡ pos 0) (old-low 1 m 0 (omega arith)) (before-old m u g 0 ∙ p .0) in
       let retired : Times = λ k. g (k + m) in
-      let now = kept-renamed (left m) (joined u g) rs .0 (p .1 .1) in
-      let kept = kept-ext (λ x. joined u g (left m x)) (joined v retired) (before-times m u g) rs now in
+      let now = kept-renamed (left m) (completed u g) rs .0 (p .1 .1) in
+      let kept = kept-ext (λ x. completed u g (left m x)) (completed v retired) (before-times m u g) rs now in
       (v, (origin, (retired, kept)), before-old m u g)
 
 -- ---- jobs and lines

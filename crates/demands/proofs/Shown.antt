@@ -24,7 +24,7 @@ use Rattle.demands.specs.Model as Model
 use Rattle.demands.specs.Beside.{Sim}
 use Rattle.demands.specs.Tidy as Tidy
 use Rattle.demands.specs.Cases.{Expect, earliest, latest, runs, fails, same, Meets, AllMeet, SameTimetables}
-use Rattle.demands.specs.Shown.{accepted, readable, sameRow, sameCells, sameBoards, shown, allShown}
+use Rattle.demands.specs.Shown.{isAccepted, readable, sameRow, sameCells, sameBoards, shown, allShown}
 use Rattle.demands.proofs.Values.{least-at, greatest-at}
 use Rattle.demands.proofs.Compare.{compare}
 use Rattle.demands.proofs.Tries.{turned}
@@ -36,13 +36,13 @@ and-both : (x y : Bool) → (x && y) ≡ true → (x ≡ true) × (y ≡ true)
 and-both true y e = (refl, e)
 and-both false y e = absurd (true≢false (sym e))
 
-accepted-is : (r : Ruling) → accepted r ≡ true → r ≡ Accepted
-unfolding accepted
+accepted-is : (r : Ruling) → isAccepted r ≡ true → r ≡ Accepted
+unfolding isAccepted
 accepted-is Accepted e = refl
 accepted-is (Refused c) e = absurd (true≢false (sym e))
 
-refused-is : (r : Ruling) → not (accepted r) ≡ true → r ≡ Accepted → ⊥
-unfolding accepted
+refused-is : (r : Ruling) → not (isAccepted r) ≡ true → r ≡ Accepted → ⊥
+unfolding isAccepted
 refused-is r e p = true≢false (sym (rw p at e))
 
 same-row : (f g : ℕ → ℕ) (n j : ℕ) → sameRow f g n ≡ true → j < n → f j ≡ g j
@@ -70,8 +70,8 @@ same-cells c d n (suc m) i j e hi hj =
 readable-right : (p o : List ℕ) → readable p o ≡ true → (factCheck p o ≡ Accepted) ↔ AllRun (knownOf o) (chainOf p o) (goalOf o)
 unfolding readable
 readable-right p o e =
-    let one = and-both (accepted (plantRuling p)) _ e in
-    let two = and-both (accepted (offerRuling p o)) (not (share (knownOf o .pos) (knownOf o .neg))) (one .1) in
+    let one = and-both (isAccepted (plantRuling p)) _ e in
+    let two = and-both (isAccepted (offerRuling p o)) (not (share (knownOf o .pos) (knownOf o .neg))) (one .1) in
     fact-check-right p o (accepted-is (plantRuling p) (one .0)) (accepted-is (offerRuling p o) (two .0)) (not-true _ (two .1))
 
 -- ---- beside a board

@@ -18,7 +18,7 @@ use Rattle.rulebook.specs.Book as Rulebook
 use Rattle.demands.specs.Model.{Board, step}
 use Rattle.demands.specs.Model as Model
 use Rattle.demands.specs.Beside.{Holds, Sim}
-use Rattle.demands.specs.Tidy.{rowOf, rowsOf, tidy, tidied, runs, rules}
+use Rattle.demands.specs.Tidy.{heldRow, heldRows, tidy, tidied, runs, rules}
 use Rattle.demands.proofs.Jobs.{still-jobs}
 use Rattle.demands.proofs.Tries.{live-positive}
 use Rattle.demands.proofs.Step.{sim-keeps, sim-exists, fresh-sim}
@@ -46,17 +46,17 @@ holds-agree {s} {c} d e h =
 
 -- ---- the cells of a tidied table
 
-row-at : (f : ℕ → ℕ) (i n j : ℕ) → j < n → getD (rowOf f i n) j 0 ≡ f (i + j)
-unfolding rowOf
+row-at : (f : ℕ → ℕ) (i n j : ℕ) → j < n → getD (heldRow f i n) j 0 ≡ f (i + j)
+unfolding heldRow
 row-at f i zero j h = absurd (omega arith)
 row-at f i (suc n) zero h = ap f (omega arith)
 row-at f i (suc n) (suc j) h = row-at f (suc i) n j (omega arith) ∙ ap f (omega arith)
 
-rows-at : (c : Table) (n i k a : ℕ) → a < k → getD (rowsOf c n i k) a [] ≡ rowOf (c (i + a)) 0 n
-unfolding rowsOf
+rows-at : (c : Table) (n i k a : ℕ) → a < k → getD (heldRows c n i k) a [] ≡ heldRow (c (i + a)) 0 n
+unfolding heldRows
 rows-at c n i zero a h = absurd (omega arith)
-rows-at c n i (suc k) zero h = ap (λ (z : ℕ). rowOf (c z) 0 n) (omega arith)
-rows-at c n i (suc k) (suc a) h = rows-at c n (suc i) k a (omega arith) ∙ ap (λ (z : ℕ). rowOf (c z) 0 n) (omega arith)
+rows-at c n i (suc k) zero h = ap (λ (z : ℕ). heldRow (c z) 0 n) (omega arith)
+rows-at c n i (suc k) (suc a) h = rows-at c n (suc i) k a (omega arith) ∙ ap (λ (z : ℕ). heldRow (c z) 0 n) (omega arith)
 
 pub tidy-agree : (n : ℕ) (c : Table) → Agree n c (tidy n c)
 unfolding tidy

@@ -26,7 +26,7 @@ use Rattle.plain.proofs.Rules.{KeepsAll, keeps-append, kept-append, kept-named}
 use Rattle.stn.specs.Table.{bias, Table, Closed, Fits, soonest, addAll, Within}
 use Rattle.stn.proofs.Fits.{soonest-fits, soonest-origin}
 use Rattle.stn.proofs.Add.{Added, addAll-added}
-use Rattle.rulebook.specs.Book.{Book, Point, live, joined, Possible, SomePossible, made, Settles, Refuses}
+use Rattle.rulebook.specs.Book.{Book, Point, live, completed, Possible, SomePossible, made, Settles, Refuses}
 use Rattle.demands.specs.Model.{Board, book, board, refusal, settled}
 use Rattle.demands.specs.Beside.{StillJobs, LinesIn, JobsIn, Holds, Sim, Mirrors}
 
@@ -40,14 +40,14 @@ turned {bd} {bk} m = λ i. book (m .state i) (bk .rules)
 pub possible-made :
     (s next : Plain.State) (rs : List (RuleOn Point)) (qs : List Rule) (u : Times)
     → Possible (made next (book s rs) qs) u ↔ (Possible (book s rs) u × KeepsAll u qs)
-unfolding Possible made joined
+unfolding Possible made completed
 possible-made s next rs qs u = (
   λ p.
-      let t = joined u (p .1 .0) in
+      let t = completed u (p .1 .0) in
       let k = kept-append t rs (map (named live) qs) .0 (p .1 .1) in
       ((p .0, (p .1 .0, k .0)), kept-named live t qs .0 (k .1)),
   λ q.
-      let t = joined u (q .0 .1 .0) in
+      let t = completed u (q .0 .1 .0) in
       (q .0 .0, (q .0 .1 .0, kept-append t rs (map (named live) qs) .1 (q .0 .1 .1, kept-named live t qs .1 (q .1)))),
 )
 

@@ -20,12 +20,12 @@ use Rattle.demands.specs.Model as Model
 use Rattle.demands.specs.Tidy as Tidy
 use Rattle.demands.specs.Cases.{Expect, earliest, latest, runs, fails, same}
 
-unfoldable pub accepted : Ruling → Bool
-accepted Accepted = true
-accepted (Refused c) = false
+unfoldable pub isAccepted : Ruling → Bool
+isAccepted Accepted = true
+isAccepted (Refused c) = false
 
 unfoldable pub readable : List ℕ → List ℕ → Bool
-readable p o = accepted (plantRuling p) && (accepted (offerRuling p o) && not (share (knownOf o .pos) (knownOf o .neg)))
+readable p o = isAccepted (plantRuling p) && (isAccepted (offerRuling p o) && not (share (knownOf o .pos) (knownOf o .neg)))
 
 -- the first n cells of two rows; the first m rows of two tables, of n cells each
 unfoldable pub sameRow : (ℕ → ℕ) → (ℕ → ℕ) → ℕ → Bool
@@ -44,8 +44,8 @@ sameBoards a b =
 unfoldable pub shown : Board → Expect → Bool
 shown b (earliest x v) = ltb x (Plain.liveCount (b .state)) && eqb (Gaps.earliest (b .table) x) v
 shown b (latest x v) = ltb x (Plain.liveCount (b .state)) && eqb (Gaps.latest (b .table) x) v
-shown b (runs p o) = readable p o && accepted (factCheck p o)
-shown b (fails p o) = readable p o && not (accepted (factCheck p o))
+shown b (runs p o) = readable p o && isAccepted (factCheck p o)
+shown b (fails p o) = readable p o && not (isAccepted (factCheck p o))
 shown b (same H D cs) = leb H bias && sameBoards b (Tidy.runs (Model.fresh H D) cs)
 
 unfoldable pub allShown : Board → List Expect → Bool

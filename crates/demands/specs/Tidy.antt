@@ -13,17 +13,17 @@ use Rattle.rulebook.specs.Book.{Call}
 use Rattle.demands.specs.Model.{Board, board, step}
 
 -- f i, f (i + 1), .., n of them
-unfoldable pub rowOf : (ℕ → ℕ) → ℕ → ℕ → List ℕ
-rowOf f i zero = []
-rowOf f i (suc n) = f i ∷ rowOf f (suc i) n
+unfoldable pub heldRow : (ℕ → ℕ) → ℕ → ℕ → List ℕ
+heldRow f i zero = []
+heldRow f i (suc n) = f i ∷ heldRow f (suc i) n
 
 -- the rows i, i + 1, .., k of them, of n cells each
-unfoldable pub rowsOf : Table → ℕ → ℕ → ℕ → List (List ℕ)
-rowsOf c n i zero = []
-rowsOf c n i (suc k) = rowOf (c i) 0 n ∷ rowsOf c n (suc i) k
+unfoldable pub heldRows : Table → ℕ → ℕ → ℕ → List (List ℕ)
+heldRows c n i zero = []
+heldRows c n i (suc k) = heldRow (c i) 0 n ∷ heldRows c n (suc i) k
 
 unfoldable pub tidy : ℕ → Table → Table
-tidy n c = let rows = rowsOf c n 0 n in λ i j. getD (getD rows i []) j 0
+tidy n c = let rows = heldRows c n 0 n in λ i j. getD (getD rows i []) j 0
 
 unfoldable pub tidied : Board → Board
 tidied b = board (b .state) (tidy (Plain.liveCount (b .state)) (b .table))

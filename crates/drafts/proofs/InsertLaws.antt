@@ -16,10 +16,10 @@ use Rattle.plain.specs.Plain.{noUse, inserted}
 use Rattle.plain.specs.declared.Use.{Use}
 use Rattle.lines.specs.declared.Line.{Line}
 use Rattle.lines.specs.Padded.{padded}
-use Rattle.lines.specs.Held.{lineOf, lineFrom as heldLine}
+use Rattle.lines.specs.Held.{lineOf, lineFrom}
 use Rattle.lines.proofs.Padded.{length-padded, padded-at}
 use Rattle.lines.proofs.LineLaws.{length-inserted}
-use Rattle.boardwords.specs.Words.{wordIn, useAt, usesFrom, lineFrom}
+use Rattle.boardwords.specs.Words.{wordIn, useAt, usesRead, lineRead}
 use Rattle.boardwords.specs.Codec.{useWords, put}
 use Rattle.lists.proofs.Build.{build-length, build-at}
 use Rattle.boardwords.proofs.Put.{put-length}
@@ -180,9 +180,9 @@ module _
       same-use (old-use i) (word-behind (at + 1 + 3 * i) (omega arith)) (word-behind (at + 1 + 3 * i + 1) (omega arith))
       (word-behind (at + 1 + 3 * i + 2) (omega arith))
 
-  module _ (count : n ≡ wordIn W at) (tidy : Tidy (lineFrom (wordIn W) at)) where
+  module _ (count : n ≡ wordIn W at) (tidy : Tidy (lineRead (wordIn W) at)) where
     abbrev held : List Use
-    held = lineOf (lineFrom (wordIn W) at)
+    held = lineOf (lineRead (wordIn W) at)
 
     size : length held ≡ n
     size = sym (count ∙ ap (λ (q : Line). q .count) tidy)
@@ -217,12 +217,12 @@ module _
         go k l (yes lt) = use-before k lt ∙ old-is k l ∙ sym (inserted-below u held place k lt (omega (arith, size)))
         go k l (no ge) = upto k l (omega arith) (decLt place k)
 
-    pub line-inserted : lineFrom (wordIn (set P at (n + 1))) at ≡ heldLine (inserted place u held)
+    pub line-inserted : lineRead (wordIn (set P at (n + 1))) at ≡ lineFrom (inserted place u held)
     line-inserted =
         let l : List Use = inserted place u held in
         let count-is : wordIn (set P at (n + 1)) at ≡ length l = word-count ∙ omega (arith, length-inserted place u held, size) in
         let len = build-length now-use 32 in
-        let uses-are : usesFrom (wordIn (set P at (n + 1))) (at + 1) ≡ padded 32 noUse l =
-        ext-getD noUse (usesFrom (wordIn (set P at (n + 1))) (at + 1)) (padded 32 noUse l) (len ∙ sym (length-padded 32 noUse l))
+        let uses-are : usesRead (wordIn (set P at (n + 1))) (at + 1) ≡ padded 32 noUse l =
+        ext-getD noUse (usesRead (wordIn (set P at (n + 1))) (at + 1)) (padded 32 noUse l) (len ∙ sym (length-padded 32 noUse l))
         (λ k h. build-at now-use 32 k noUse (omega (arith, len)) ∙ new-is k (omega (arith, len)) ∙ sym (padded-at 32 noUse l k (omega (arith, len)))) in
         rw (count-is, uses-are) refl

@@ -20,7 +20,7 @@ use Rattle.rulings.specs.declared.Cause.{Cause}
 use Rattle.rulings.specs.declared.Ruling.{Ruling}
 use Rattle.rulings.specs.declared.Ruling.the-variants.{Accepted, Refused}
 use Rattle.plain.specs.Plain.{noUse, inserted, ruleBefore, ruleAfter, usedFrom, Placed, placed}
-use Rattle.lines.specs.Held.{lineOf, lineFrom, linesOf, linesFrom as heldLines, rulesOf, maybeFrom, noLine, answered}
+use Rattle.lines.specs.Held.{lineOf, lineFrom, linesOf, linesFrom, rulesOf, maybeFrom, noLine, answered}
 use Rattle.drafts.specs.Turned.{Reached, answerOf, storing, Outcome, Turned}
 use Rattle.lines.specs.Asked.{Short, AllShort, Ready, Room, Readable}
 use Rattle.plain.specs.declared.Use.{Use}
@@ -30,7 +30,7 @@ use Rattle.plain.specs.declared.Rule.{Rule}
 use Rattle.lines.specs.declared.rulelist.Maybe.{Maybe}
 use Rattle.lines.specs.declared.rulelist.Rules.{Rules}
 use Rattle.drafts.specs.declared.placing.Turn.{Turn}
-use Rattle.boardwords.specs.Words.{Words, lineAt, linesFrom}
+use Rattle.boardwords.specs.Words.{Words, lineAt, linesRead}
 use Rattle.drafts.specs.Beside.{Tidy, Beside}
 use Rattle.boardwords.proofs.Boards.{line-of}
 use Rattle.drafts.proofs.WordLaws.{lines-set}
@@ -105,9 +105,9 @@ stays-ready lines r p u new ready h s room e =
         sixteen = length-set lines r new ∙ ready .sixteen;
         tidy =
             ap (λ (ls : List Line). set ls r new) (ready .tidy)
-            ∙ ap (set (heldLines (linesOf lines)) r) e
+            ∙ ap (set (linesFrom (linesOf lines)) r) e
             ∙ sym (map-set lineFrom (linesOf lines) r l)
-            ∙ ap heldLines (sym view);
+            ∙ ap linesFrom (sym view);
         short =
             subst (λ (ls : List (List Use)). (i : ℕ) → AllShort (getD ls i [])) (sym view)
             (set-all AllShort (linesOf lines) r l [] (inserted-short old p u s (line-short ready r h)) (ready .short));
@@ -180,12 +180,12 @@ puts-in x i p v w u b a new rules room ready good hp few eu eb ea en ew =
 
 -- ---- the same of lines in words
 
-module _ (w : Words) (ready : Ready (linesFrom w)) (r : ℕ) (h : r < 16) where
-  pub words-size : length (lineOf (getD (linesFrom w) r noLine)) ≡ w (52 + 97 * r)
+module _ (w : Words) (ready : Ready (linesRead w)) (r : ℕ) (h : r < 16) where
+  pub words-size : length (lineOf (getD (linesRead w) r noLine)) ≡ w (52 + 97 * r)
   words-size = sym (line-size ready r h) ∙ ap (λ (q : Line). q .count) (line-of w r h)
 
   pub words-few : w (52 + 97 * r) ≤ 32
-  words-few = let is : getD (linesFrom w) r noLine .count ≡ w (52 + 97 * r) = ap (λ (q : Line). q .count) (line-of w r h) in
+  words-few = let is : getD (linesRead w) r noLine .count ≡ w (52 + 97 * r) = ap (λ (q : Line). q .count) (line-of w r h) in
       omega (arith, line-few ready r h, is)
 
   pub words-tidy : Tidy (lineAt w r)
@@ -195,21 +195,21 @@ module _ (w : Words) (ready : Ready (linesFrom w)) (r : ℕ) (h : r < 16) where
   words-short = subst (λ (q : Line). AllShort (lineOf q)) (line-of w r h) (line-short ready r h)
 
 pub words-turn :
-    (x i : ℕ) (p : Put) (v w : Words) (u : Use) (b a : Maybe) → Ready (linesFrom v) → Readable p
+    (x i : ℕ) (p : Put) (v w : Words) (u : Use) (b a : Maybe) → Ready (linesRead v) → Readable p
     → p .place ≤ v (52 + 97 * p .resource) → v (52 + 97 * p .resource) < 32 → u ≡ usedFrom x p
     → b ≡ maybeFrom (ruleBefore (lineOf (lineAt v (p .resource))) (p .place) u)
     → a ≡ maybeFrom (ruleAfter (lineOf (lineAt v (p .resource))) (p .place) u)
     → lineAt w (p .resource) ≡ lineFrom (inserted (p .place) u (lineOf (lineAt v (p .resource)))) → Beside (52 + 97 * p .resource) v w
-    → Turned x i p (linesFrom v) (linesFrom w) (record { ruling = Accepted; before = b; after = a })
+    → Turned x i p (linesRead v) (linesRead w) (record { ruling = Accepted; before = b; after = a })
 words-turn x i p v w u b a ready good hp few eu eb ea en beside =
     let r = p .resource in
     let l : List Use = lineOf (lineAt v r) in
-    let is : lineAt v r ≡ getD (linesFrom v) r noLine = sym (line-of v r (good .resource)) in
-    let count : v (52 + 97 * r) ≡ getD (linesFrom v) r noLine .count = ap (λ (q : Line). q .count) is in (
+    let is : lineAt v r ≡ getD (linesRead v) r noLine = sym (line-of v r (good .resource)) in
+    let count : v (52 + 97 * r) ≡ getD (linesRead v) r noLine .count = ap (λ (q : Line). q .count) is in (
       omega (arith, ap (λ (m : Maybe). m .count) eb, before-few l (p .place) u),
       omega (arith, ap (λ (m : Maybe). m .count) ea, after-few l (p .place) u),
       λ rules room.
-          puts-in x i p (linesFrom v) (linesFrom w) u b a (lineAt w r) rules room ready good (omega (arith, count)) (omega (arith, count)) eu
+          puts-in x i p (linesRead v) (linesRead w) u b a (lineAt w r) rules room ready good (omega (arith, count)) (omega (arith, count)) eu
           (eb ∙ ap (λ (q : Line). maybeFrom (ruleBefore (lineOf q) (p .place) u)) is)
           (ea ∙ ap (λ (q : Line). maybeFrom (ruleAfter (lineOf q) (p .place) u)) is)
           (en ∙ ap (λ (q : Line). lineFrom (inserted (p .place) u (lineOf q))) is)

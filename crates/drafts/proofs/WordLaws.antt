@@ -8,7 +8,7 @@ use native.Mathlib.Decide.{decLt}
 use native.Mathlib.Omega.{arith}
 use Rattle.lines.specs.declared.Line.{Line}
 use Rattle.lines.specs.Held.{noLine}
-use Rattle.boardwords.specs.Words.{Words, lineAt, linesFrom}
+use Rattle.boardwords.specs.Words.{Words, lineAt, linesRead}
 use Rattle.lists.proofs.Build.{build-length}
 use Rattle.boardwords.proofs.Boards.{line-of, same-line}
 use Rattle.drafts.specs.Beside.{Beside}
@@ -26,21 +26,21 @@ module _ (v w : Words) (r : ℕ) (h : r < 16) (beside : Beside (52 + 97 * r) v w
           above : (k : ℕ) → (k ≡ r → ⊥) → (k < r → ⊥) → r < k
           above k other ge = omega arith
 
-  pub lines-set : (new : Line) → lineAt w r ≡ new → linesFrom w ≡ set (linesFrom v) r new
+  pub lines-set : (new : Line) → lineAt w r ≡ new → linesRead w ≡ set (linesRead v) r new
   lines-set new e =
-      let n : length (linesFrom w) ≡ 16 = build-length (lineAt w) 16 in
-      let m : length (linesFrom v) ≡ 16 = build-length (lineAt v) 16 in
-      ext-getD noLine (linesFrom w) (set (linesFrom v) r new) (n ∙ sym (length-set (linesFrom v) r new ∙ m))
+      let n : length (linesRead w) ≡ 16 = build-length (lineAt w) 16 in
+      let m : length (linesRead v) ≡ 16 = build-length (lineAt v) 16 in
+      ext-getD noLine (linesRead w) (set (linesRead v) r new) (n ∙ sym (length-set (linesRead v) r new ∙ m))
       (λ k l. line-of w k (omega arith) ∙ at k (omega arith) (decLt k r) (decLt r k))
     where
-      same : (k : ℕ) → k < 16 → (k ≡ r → ⊥) → lineAt w k ≡ getD (set (linesFrom v) r new) k noLine
-      same k l other = same-other k other ∙ sym (getD-set-other (linesFrom v) r k new noLine other ∙ line-of v k l)
+      same : (k : ℕ) → k < 16 → (k ≡ r → ⊥) → lineAt w k ≡ getD (set (linesRead v) r new) k noLine
+      same k l other = same-other k other ∙ sym (getD-set-other (linesRead v) r k new noLine other ∙ line-of v k l)
 
-      here : (k : ℕ) → k ≡ r → lineAt w k ≡ getD (set (linesFrom v) r new) k noLine
+      here : (k : ℕ) → k ≡ r → lineAt w k ≡ getD (set (linesRead v) r new) k noLine
       here k s =
-          rw s (e ∙ sym (getD-set-same (linesFrom v) r new noLine (omega (arith, build-length (lineAt v) 16, h))))
+          rw s (e ∙ sym (getD-set-same (linesRead v) r new noLine (omega (arith, build-length (lineAt v) 16, h))))
 
-      at : (k : ℕ) → k < 16 → Dec (k < r) → Dec (r < k) → lineAt w k ≡ getD (set (linesFrom v) r new) k noLine
+      at : (k : ℕ) → k < 16 → Dec (k < r) → Dec (r < k) → lineAt w k ≡ getD (set (linesRead v) r new) k noLine
       at k l (yes lt) d = same k l (λ s. omega arith)
       at k l (no ge) (yes gt) = same k l (λ s. omega arith)
       at k l (no ge) (no le) = here k (omega arith)

@@ -4,9 +4,9 @@ ghost use mathlib.Core.List.{_∷_};
 ghost use Prim.Native.Nat.{ℕ, _≤_};
 ghost use lib.ListN.{length};
 ghost use Rattle.plain.specs.Plain.{notBefore, durations, drafted};
-ghost use Rattle.lines.specs.Held.{stepsOf, rulesFrom, stateOf, offerOf};
+ghost use Rattle.lines.specs.Held.{stepsOf, rulesFrom, stateOf, heldOffer};
 ghost use Rattle.lines.specs.Asked.{Sized, Ready, Read};
-ghost use Rattle.boardwords.specs.Words.{wordIn, linesFrom};
+ghost use Rattle.boardwords.specs.Words.{wordIn, linesRead};
 ghost use Rattle.drafts.specs.DraftedAs.{DraftedAs};
 use crate::placing::place_all;
 use lines::Jobs;
@@ -63,9 +63,9 @@ pub fn draft(
     puts: Puts,
 ) -> Drafted
     requires { ⌜ 1604 ≤ length (now w) ⌝ }
-    requires { ⌜ Sized jobs × Ready (linesFrom (wordIn (now w))) × (clock ≤ 100000000) × (lead ≤ 1000000) × (steps .count ≤ 8) × Read puts ⌝ }
-    ensures drafted { λ r. ⌜ ((H : ℕ) → DraftedAs r (linesFrom (wordIn (now (w .exit)))) (drafted (stateOf jobs (linesFrom (wordIn (now (w .entry)))) clock H lead) (offerOf batch steps puts))) ⌝ }
-    ensures ready { λ _. ⌜ Ready (linesFrom (wordIn (now (w .exit)))) ⌝ }
+    requires { ⌜ Sized jobs × Ready (linesRead (wordIn (now w))) × (clock ≤ 100000000) × (lead ≤ 1000000) × (steps .count ≤ 8) × Read puts ⌝ }
+    ensures drafted { λ r. ⌜ ((H : ℕ) → DraftedAs r (linesRead (wordIn (now (w .exit)))) (drafted (stateOf jobs (linesRead (wordIn (now (w .entry)))) clock H lead) (heldOffer batch steps puts))) ⌝ }
+    ensures ready { λ _. ⌜ Ready (linesRead (wordIn (now (w .exit)))) ⌝ }
 {
     let count = steps.count as u32;
     if is_full(jobs, count + 1) {

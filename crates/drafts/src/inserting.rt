@@ -4,8 +4,8 @@ ghost use Prim.Native.Nat.{_+_, _-_, _≤_, _<_};
 ghost use lib.ListN.{length, getD};
 ghost use Rattle.lists.specs.Loops.{rewritten};
 ghost use Rattle.plain.specs.Plain.{inserted};
-ghost use Rattle.lines.specs.Held.{lineOf, lineFrom as heldLine};
-ghost use Rattle.boardwords.specs.Words.{wordIn, lineFrom};
+ghost use Rattle.lines.specs.Held.{lineOf, lineFrom};
+ghost use Rattle.boardwords.specs.Words.{wordIn, lineRead};
 ghost use Rattle.drafts.specs.Beside.{Tidy, Beside};
 use boardwords::put_use;
 use plain::Use;
@@ -25,8 +25,8 @@ fn move_up(w: &mut [u32], from: usize, to: usize)
 // The line at word `at` with a use put in after `place` others. Those behind it move up by one.
 pub fn insert(w: &mut [u32], at: usize, place: usize, u: Use)
     requires { ⌜ (at + 97 ≤ length (now w)) × (place ≤ wordIn (now w) at) × (wordIn (now w) at < 32) ⌝ }
-    requires { ⌜ Tidy (lineFrom (wordIn (now w)) at) ⌝ }
-    ensures line { λ _. ⌜ lineFrom (wordIn (now (w .exit))) at ≡ heldLine (inserted place u (lineOf (lineFrom (wordIn (now (w .entry))) at))) ⌝ }
+    requires { ⌜ Tidy (lineRead (wordIn (now w)) at) ⌝ }
+    ensures line { λ _. ⌜ lineRead (wordIn (now (w .exit))) at ≡ lineFrom (inserted place u (lineOf (lineRead (wordIn (now (w .entry))) at))) ⌝ }
     ensures others { λ _. ⌜ Beside at (wordIn (now (w .entry))) (wordIn (now (w .exit))) ⌝ }
 {
     let count = w[at];

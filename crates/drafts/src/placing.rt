@@ -6,7 +6,7 @@ ghost use lib.ListN.{length};
 ghost use Rattle.plain.specs.Plain.{usedFrom, ruleBefore, ruleAfter, placed};
 ghost use Rattle.lines.specs.Held.{lineOf, linesOf, rulesOf, putsOf, maybeFrom, answered};
 ghost use Rattle.lines.specs.Asked.{Short, AllShort, Ready, Room, Readable, Read};
-ghost use Rattle.boardwords.specs.Words.{wordIn, lineFrom, linesFrom};
+ghost use Rattle.boardwords.specs.Words.{wordIn, lineRead, linesRead};
 ghost use Rattle.drafts.specs.Turned.{Turned};
 use crate::inserting::insert;
 use boardwords::read_use;
@@ -49,8 +49,8 @@ fn used_from(first: u32, put: Put) -> Use
 // The rule with the use just before the place, if there is one.
 fn rule_before(w: &[u32], at: usize, place: usize, u: Use) -> Maybe
     requires { ⌜ (at + 97 ≤ length (now w)) × (place ≤ wordIn (now w) at) × (wordIn (now w) at ≤ 32) ⌝ }
-    requires { ⌜ AllShort (lineOf (lineFrom (wordIn (now w)) at)) ⌝ }
-    ensures { λ r. ⌜ r ≡ maybeFrom (ruleBefore (lineOf (lineFrom (wordIn (now (w .entry))) at)) place u) ⌝ }
+    requires { ⌜ AllShort (lineOf (lineRead (wordIn (now w)) at)) ⌝ }
+    ensures { λ r. ⌜ r ≡ maybeFrom (ruleBefore (lineOf (lineRead (wordIn (now (w .entry))) at)) place u) ⌝ }
 {
     if place == 0 {
         return no_rule();
@@ -62,7 +62,7 @@ fn rule_before(w: &[u32], at: usize, place: usize, u: Use) -> Maybe
 // The rule with the use just after the place, if there is one.
 fn rule_after(w: &[u32], at: usize, place: usize, u: Use) -> Maybe
     requires { ⌜ (at + 97 ≤ length (now w)) × (wordIn (now w) at ≤ 32) × Short u ⌝ }
-    ensures { λ r. ⌜ r ≡ maybeFrom (ruleAfter (lineOf (lineFrom (wordIn (now (w .entry))) at)) place u) ⌝ }
+    ensures { λ r. ⌜ r ≡ maybeFrom (ruleAfter (lineOf (lineRead (wordIn (now (w .entry))) at)) place u) ⌝ }
 {
     let count = w[at] as usize;
     if count <= place {
@@ -86,8 +86,8 @@ fn stopped(cause: Cause) -> Turn
 // Allocation i put into its line. 15 "A place exceeds the number in its line at that moment", and then 16 "The line has 32 already".
 fn place_one(w: &mut [u32], first: u32, i: u32, put: Put) -> Turn
     requires { ⌜ 1604 ≤ length (now w) ⌝ }
-    requires { ⌜ (first ≤ 64) × Readable put × Ready (linesFrom (wordIn (now w))) ⌝ }
-    ensures { λ r. ⌜ Turned first i put (linesFrom (wordIn (now (w .entry)))) (linesFrom (wordIn (now (w .exit)))) r ⌝ }
+    requires { ⌜ (first ≤ 64) × Readable put × Ready (linesRead (wordIn (now w))) ⌝ }
+    ensures { λ r. ⌜ Turned first i put (linesRead (wordIn (now (w .entry)))) (linesRead (wordIn (now (w .exit)))) r ⌝ }
 {
     let at = 52 + 97 * (put.resource as usize);
     let place = put.place as usize;
@@ -113,9 +113,9 @@ fn place_one(w: &mut [u32], first: u32, i: u32, put: Put) -> Turn
 // stands in the line at that moment, the offer's earlier allocations with it.
 pub fn place_all(w: &mut [u32], first: u32, puts: Puts, rules: Rules) -> Placing
     requires { ⌜ 1604 ≤ length (now w) ⌝ }
-    requires { ⌜ (first ≤ 64) × Read puts × Ready (linesFrom (wordIn (now w))) × Room 65 rules ⌝ }
-    ensures answer { λ r. ⌜ answered (r .ruling) (linesOf (linesFrom (wordIn (now (w .exit))))) (rulesOf (r .rules)) ≡ placed first 0 (putsOf puts) (linesOf (linesFrom (wordIn (now (w .entry))))) (rulesOf rules) ⌝ }
-    ensures ready { λ r. ⌜ Ready (linesFrom (wordIn (now (w .exit)))) ⌝ }
+    requires { ⌜ (first ≤ 64) × Read puts × Ready (linesRead (wordIn (now w))) × Room 65 rules ⌝ }
+    ensures answer { λ r. ⌜ answered (r .ruling) (linesOf (linesRead (wordIn (now (w .exit))))) (rulesOf (r .rules)) ≡ placed first 0 (putsOf puts) (linesOf (linesRead (wordIn (now (w .entry))))) (rulesOf rules) ⌝ }
+    ensures ready { λ r. ⌜ Ready (linesRead (wordIn (now (w .exit)))) ⌝ }
     ensures room { λ r. ⌜ Room 1 (r .rules) ⌝ }
 {
     let mut made = rules;

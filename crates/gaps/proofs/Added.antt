@@ -20,7 +20,7 @@ use Rattle.lists.specs.Loops.{rewritten}
 use Rattle.stn.proofs.Add.{add-closed}
 use Rattle.stn.proofs.Agree.{agree-closed}
 use Rattle.stn.specs.Table.{bias, Table, Closed, Agrees, Agree, add}
-use Rattle.gaps.specs.Cells.{cell, tableOf, rowOf, addedCell, relaxed, added, Usable, Whole}
+use Rattle.gaps.specs.Cells.{cell, tableOf, rowAt, addedCell, relaxed, added, Usable, Whole}
 use Rattle.gaps.proofs.Overlaid.{row-next, overlaid-length, overlaid-agree, overlaid-rest, overlaid-past, overlaid-self, overlaid-same}
 
 pub record Turn (l : List ℕ) (n : ℕ) (r : Rule) (early late : ℕ) (row m : List ℕ) (a : ℕ) : Type 0 where
@@ -40,7 +40,7 @@ pub record Turn (l : List ℕ) (n : ℕ) (r : Rule) (early late : ℕ) (row m : 
 module _
     (l : List ℕ) (n : ℕ) (r : Rule) (size : length l ≡ 4225) (few : n ≤ 65) (u : Usable n r) (cl : Closed n (tableOf l))
     (whole : Whole n r (tableOf l)) (early late : ℕ) (is-early : early ≡ r .early) (is-late : late ≡ r .late) (row : List ℕ)
-    (copy : row ≡ rowOf l early) (m : List ℕ) (a : ℕ) (ha : a < n) (is : m ≡ rewritten (addedCell l n r) l 0 (a * 65)) where
+    (copy : row ≡ rowAt l early) (m : List ℕ) (a : ℕ) (ha : a < n) (is : m ≡ rewritten (addedCell l n r) l 0 (a * 65)) where
   still : (b : ℕ) → cell m a b ≡ cell l a b
   still b = ahead (addedCell l n r) l m 0 (a * 65) is (a * 65 + b) (omega arith)
 

@@ -1,7 +1,7 @@
 -- The gap table as the list of its 65 x 65 cells, row by row: what the code holds, read as a table of stn, and what the code makes of it.
 -- All that changes a list writes a table over the cells of its first points, so that the laws of `overlaid` serve adding and growing.
 --   cell l i j              the cell (i, j) of the list l;  tableOf l: the table that it holds
---   rowOf l i               a copy of row i
+--   rowAt l i               a copy of row i
 --   overlaid n c l          the list l with the table c written over the cells of the first n points;  overlay n c l k: what place k holds then
 --   relaxed l row via cut k   what place k holds when its row is relaxed: the least of what it held and the way that begins with via, goes on
 --                           by row and is shorter by cut
@@ -27,8 +27,8 @@ cell l i j = getD l (i * 65 + j) 0
 abbrev pub tableOf : List ℕ → Table
 tableOf l = λ i j. cell l i j
 
-abbrev pub rowOf : List ℕ → ℕ → List ℕ
-rowOf l i = build (λ j. cell l i j) 65
+abbrev pub rowAt : List ℕ → ℕ → List ℕ
+rowAt l i = build (λ j. cell l i j) 65
 
 abbrev pub overlay : ℕ → Table → List ℕ → ℕ → ℕ
 overlay n c l k = cond (ltb (k % 65) n) (c (k / 65) (k % 65)) (getD l k 0)

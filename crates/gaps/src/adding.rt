@@ -6,7 +6,7 @@ ghost use Prim.Native.Nat.{ℕ, _+_, _*_, _≤_, _<_, min};
 ghost use lib.ListN.{length, getD};
 ghost use Rattle.lists.specs.Loops.{rewritten};
 ghost use Rattle.stn.specs.Table.{bias, agrees, implies, Closed};
-ghost use Rattle.gaps.specs.Cells.{cell, tableOf, rowOf, relaxed, added, Usable, Whole};
+ghost use Rattle.gaps.specs.Cells.{cell, tableOf, rowAt, relaxed, added, Usable, Whole};
 
 // A number of a rule as an index.
 fn wide(x: u32) -> usize
@@ -47,7 +47,7 @@ pub fn implies(t: &[u32], r: Rule) -> bool
 // A copy of row i.
 fn row_of(t: &[u32], i: usize) -> [u32; 65]
     requires { ⌜ (length (now t) ≡ 4225) × (i < 65) ⌝ }
-    ensures { λ r. ⌜ r ≡ rowOf (now (t .entry)) i ⌝ }
+    ensures { λ r. ⌜ r ≡ rowAt (now (t .entry)) i ⌝ }
 {
     let mut row = [0u32; 65];
     for j in 0..65 {

@@ -7,7 +7,7 @@
 -- Answers of the code as answers of the plain machine:
 --   endRule d last e   rule (e) with a job whose last point is e - 1; none where e is 0
 --   answered c ls rs   what placing came to, by its ruling: the lines and rules are left out where it is a refusal
---   stateOf, offerOf   a board's jobs, lines and numbers as a state; what was read of an offer as an offer
+--   stateOf, heldOffer   a board's jobs, lines and numbers as a state; what was read of an offer as an offer
 use Prim.Native.Nat.{ℕ, zero, suc}
 use mathlib.Core.Bool.{false}
 use mathlib.Core.List.{List, [], _∷_, map}
@@ -89,5 +89,5 @@ abbrev pub stateOf : Jobs → List Line → ℕ → ℕ → ℕ → State
 stateOf jobs lines clock horizon lead =
     record { jobs = jobsOf jobs; lines = linesOf lines; clock = clock; horizon = horizon; lead = lead }
 
-abbrev pub offerOf : ℕ → Steps → Puts → Offer
-offerOf batch steps puts = record { batch = batch; steps = stepsOf steps; puts = putsOf puts }
+abbrev pub heldOffer : ℕ → Steps → Puts → Offer
+heldOffer batch steps puts = record { batch = batch; steps = stepsOf steps; puts = putsOf puts }

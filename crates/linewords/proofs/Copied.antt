@@ -12,7 +12,7 @@ use Rattle.lists.proofs.Rewritten.{rewritten-length, rewritten-in, rewritten-be
 use Rattle.lines.specs.declared.Line.{Line}
 use Rattle.lines.specs.Held.{noLine}
 use Rattle.boardwords.specs.declared.Board.{Board}
-use Rattle.boardwords.specs.Words.{wordIn, linesFrom, lineAt}
+use Rattle.boardwords.specs.Words.{wordIn, linesRead, lineAt}
 use Rattle.boardwords.specs.Codec.{linesWords, put, wordsOf}
 use Rattle.lists.proofs.Build.{build-at}
 use Rattle.boardwords.proofs.Put.{length-lines}
@@ -25,10 +25,10 @@ module _ (u v x : List ℕ) (room : 1604 ≤ length u) (e : x ≡ rewritten (wor
   word-is : (k : ℕ) → 52 ≤ k → k < 1604 → wordIn x k ≡ wordIn v k
   word-is k l h = ap (λ (y : List ℕ). getD y k 0) e ∙ rewritten-in (wordIn v) u 52 1604 k l h (omega arith)
 
-  pub copied-lines : linesFrom (wordIn x) ≡ linesFrom (wordIn v)
+  pub copied-lines : linesRead (wordIn x) ≡ linesRead (wordIn v)
   copied-lines = same-lines (wordIn x) (wordIn v) word-is
 
-  pub copied-put : ((k : ℕ) → k < 16 → getD (linesFrom (wordIn v)) k noLine .count ≤ 32) → x ≡ put u 52 (linesWords (linesFrom (wordIn v)))
+  pub copied-put : ((k : ℕ) → k < 16 → getD (linesRead (wordIn v)) k noLine .count ≤ 32) → x ≡ put u 52 (linesWords (linesRead (wordIn v)))
   copied-put few =
       put-is u x 52 ws (ap length e ∙ rewritten-length (wordIn v) u 52 1604) (omega (arith, many))
       (λ i h. word-is (52 + i) (omega arith) (omega (arith, many)) ∙ sym (ap (λ (y : List ℕ). getD y i 0) read ∙ build-at (λ j. wordIn v (52 + j)) 1552 i 0 (omega (arith, many))))
@@ -36,20 +36,20 @@ module _ (u v x : List ℕ) (room : 1604 ≤ length u) (e : x ≡ rewritten (wor
       (λ k h. ap (λ (y : List ℕ). getD y k 0) e ∙ rewritten-from (wordIn v) u 52 1604 k (omega (arith, many)))
     where
       ws : List ℕ
-      ws = linesWords (linesFrom (wordIn v))
+      ws = linesWords (linesRead (wordIn v))
 
-      many : length (linesWords (linesFrom (wordIn v))) ≡ 1552
-      many = length-lines (linesFrom (wordIn v))
+      many : length (linesWords (linesRead (wordIn v))) ≡ 1552
+      many = length-lines (linesRead (wordIn v))
 
       small : (k : ℕ) → k < 16 → wordIn v (52 + 97 * k) ≤ 4294967295
       small k h = let count = ap (λ (q : Line). q .count) (build-at (lineAt (wordIn v)) 16 k noLine h) in omega (arith, few k h, count)
 
-      read : linesWords (linesFrom (wordIn v)) ≡ build (λ j. wordIn v (52 + j)) 1552
+      read : linesWords (linesRead (wordIn v)) ≡ build (λ j. wordIn v (52 + j)) 1552
       read = lines-read (wordIn v) small
 
 pub written-lines :
     (u : List ℕ) (ls : List Line) → 1604 ≤ length u → length ls ≡ 16 → ((k : ℕ) → k < 16 → length (getD ls k noLine .uses) ≡ 32)
-    → ((k : ℕ) → k < 16 → getD ls k noLine .count ≤ 32) → linesFrom (wordIn (put u 52 (linesWords ls))) ≡ ls
+    → ((k : ℕ) → k < 16 → getD ls k noLine .count ≤ 32) → linesRead (wordIn (put u 52 (linesWords ls))) ≡ ls
 written-lines u ls room many full few =
     same-lines (wordIn (put u 52 (linesWords ls))) (wordIn (wordsOf b)) same ∙ lines-back b many full (λ k h. omega (arith, few k h))
   where

@@ -15,11 +15,11 @@ use native.Mathlib.Omega.{arith}
 use Rattle.plain.specs.declared.Use.{Use}
 use Rattle.plain.specs.Plain.{noUse}
 use Rattle.lines.specs.declared.Line.{Line}
-use Rattle.lines.specs.Held.{lineOf, noLine, lineFrom as heldLine}
+use Rattle.lines.specs.Held.{lineOf, noLine, lineFrom}
 use Rattle.lines.proofs.Lists.{map-at}
 use Rattle.lists.specs.Loops.{rewritten}
 use Rattle.lists.proofs.Rewritten.{rewritten-length, rewritten-in, rewritten-below, rewritten-from}
-use Rattle.boardwords.specs.Words.{Words, wordIn, useFrom, useAt, lineFrom, lineAt, linesFrom}
+use Rattle.boardwords.specs.Words.{Words, wordIn, useRead, useAt, lineRead, lineAt, linesRead}
 use Rattle.boardwords.specs.Codec.{joined, lineWords, put}
 use Rattle.lists.proofs.Build.{build-length, build-at}
 use Rattle.boardwords.proofs.Boards.{held-size, held-use, same-line}
@@ -29,10 +29,10 @@ use Rattle.linewords.proofs.Places.{line-put}
 
 -- a use is its three words
 pub same-use :
-    (v w : Words) (a b : ℕ) → v a ≡ w b → v (a + 1) ≡ w (b + 1) → v (a + 2) ≡ w (b + 2) → useFrom v a ≡ useFrom w b
+    (v w : Words) (a b : ℕ) → v a ≡ w b → v (a + 1) ≡ w (b + 1) → v (a + 2) ≡ w (b + 2) → useRead v a ≡ useRead w b
 same-use v w a b p q r = rw (p, q, r)
 
-pub no-words : (v : Words) (a : ℕ) → v a ≡ 0 → v (a + 1) ≡ 0 → v (a + 2) ≡ 0 → useFrom v a ≡ noUse
+pub no-words : (v : Words) (a : ℕ) → v a ≡ 0 → v (a + 1) ≡ 0 → v (a + 2) ≡ 0 → useRead v a ≡ noUse
 no-words v a p q r = rw (p, q, r)
 
 -- ---- a line
@@ -42,7 +42,7 @@ pub cleared-put :
     (w y x : List ℕ) (at n : ℕ) (us : List Use) → n ≡ length us → n ≤ 32 → at + 97 ≤ length w → length y ≡ length w
     → wordIn y at ≡ n → ((m : ℕ) → m < n → useAt (wordIn y) (at + 1) m ≡ getD us m noUse)
     → ((k : ℕ) → k < at → wordIn y k ≡ wordIn w k) → ((k : ℕ) → at + 97 ≤ k → wordIn y k ≡ wordIn w k)
-    → x ≡ rewritten (λ k. 0) y (at + 1 + 3 * n) (at + 97) → x ≡ put w at (lineWords (heldLine us))
+    → x ≡ rewritten (λ k. 0) y (at + 1 + 3 * n) (at + 97) → x ≡ put w at (lineWords (lineFrom us))
 cleared-put w y x at n us size few room len count uses below from is =
     line-put w x at us (omega arith) (size-x ∙ len) room (early at (omega arith) ∙ count ∙ size) each
     (λ k h. early k (omega arith) ∙ below k h) (λ k h. late k h ∙ from k h)
@@ -78,9 +78,9 @@ cleared-put w y x at n us size few room len count uses below from is =
 pub tidy-put :
     (w x : List ℕ) (at : ℕ) → at + 97 ≤ length w → wordIn w at ≤ 32
     → x ≡ rewritten (λ k. 0) w (at + 1 + 3 * wordIn w at) (at + 97)
-    → x ≡ put w at (lineWords (heldLine (lineOf (lineFrom (wordIn w) at))))
+    → x ≡ put w at (lineWords (lineFrom (lineOf (lineRead (wordIn w) at))))
 tidy-put w x at room few is =
-    cleared-put w w x at (wordIn w at) (lineOf (lineFrom (wordIn w) at)) (sym (held-size (wordIn w) at few)) few room refl refl
+    cleared-put w w x at (wordIn w at) (lineOf (lineRead (wordIn w) at)) (sym (held-size (wordIn w) at few)) few room refl refl
     (λ m h. sym (held-use (wordIn w) at m h (omega arith))) (λ k h. refl) (λ k h. refl) is
 
 -- ---- all lines
@@ -88,14 +88,14 @@ tidy-put w x at room few is =
 module _ (h : Line → Line) (w₀ : List ℕ) where
   -- the lines as they will be
   abbrev pub changed : List Line
-  changed = map h (linesFrom (wordIn w₀))
+  changed = map h (linesRead (wordIn w₀))
 
   abbrev pub turned : ℕ → List ℕ
   turned k = put w₀ 52 (joined (λ i. lineWords (getD changed i noLine)) k)
 
   changed-at : (k : ℕ) → k < 16 → getD changed k noLine ≡ h (lineAt (wordIn w₀) k)
   changed-at k l =
-      map-at h (linesFrom (wordIn w₀)) k noLine noLine (omega (arith, build-length (lineAt (wordIn w₀)) 16))
+      map-at h (linesRead (wordIn w₀)) k noLine noLine (omega (arith, build-length (lineAt (wordIn w₀)) 16))
       ∙ ap h (build-at (lineAt (wordIn w₀)) 16 k noLine l)
 
   -- line k is still what it was
@@ -115,11 +115,11 @@ module _ (h : Line → Line) (w₀ : List ℕ) where
 
   -- a line that is not reached yet has at most 32 uses
   pub lines-few :
-      (w : List ℕ) (k : ℕ) → w ≡ turned k → k < 16 → ((i : ℕ) → getD (linesFrom (wordIn w₀)) i noLine .count ≤ 32)
+      (w : List ℕ) (k : ℕ) → w ≡ turned k → k < 16 → ((i : ℕ) → getD (linesRead (wordIn w₀)) i noLine .count ≤ 32)
       → wordIn w (52 + 97 * k) ≤ 32
   lines-few w k is l few =
       let ahead : wordIn w (52 + 97 * k) ≡ wordIn w₀ (52 + 97 * k) = ap (λ (q : Line). q .count) (lines-ahead w k is) in
-      let first : getD (linesFrom (wordIn w₀)) k noLine .count ≡ wordIn w₀ (52 + 97 * k) =
+      let first : getD (linesRead (wordIn w₀)) k noLine .count ≡ wordIn w₀ (52 + 97 * k) =
       ap (λ (q : Line). q .count) (build-at (lineAt (wordIn w₀)) 16 k noLine l) in
       omega (arith, ahead, first, few k)
 

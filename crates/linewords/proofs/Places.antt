@@ -11,11 +11,11 @@ use native.Mathlib.Decide.{decLt}
 use native.Mathlib.Omega.{arith}
 use Rattle.plain.specs.declared.Use.{Use}
 use Rattle.plain.specs.Plain.{noUse}
-use Rattle.lines.specs.Held.{lineFrom as heldLine}
+use Rattle.lines.specs.Held.{lineFrom}
 use Rattle.lines.specs.Padded.{padded}
 use Rattle.lines.proofs.Padded.{length-padded, padded-at}
 use Rattle.lists.specs.Loops.{build}
-use Rattle.boardwords.specs.Words.{wordIn, useAt, usesFrom}
+use Rattle.boardwords.specs.Words.{wordIn, useAt, usesRead}
 use Rattle.boardwords.specs.Codec.{usesWords, lineWords, put}
 use Rattle.lists.proofs.Build.{build-length, build-same, build-at, build-back}
 use Rattle.boardwords.proofs.Put.{put-length, put-below, put-from}
@@ -51,9 +51,9 @@ put-is w x at l e room inside below from =
 line-at :
     (x : List ℕ) (at : ℕ) (us : List Use) → length us ≤ 32 → wordIn x at ≡ length us
     → ((m : ℕ) → m < 32 → useAt (wordIn x) (at + 1) m ≡ getD us m noUse)
-    → lineWords (heldLine us) ≡ wordIn x at ∷ build (λ j. wordIn x (at + 1 + j)) 96
+    → lineWords (lineFrom us) ≡ wordIn x at ∷ build (λ j. wordIn x (at + 1 + j)) 96
 line-at x at us few count uses =
-    let same : usesFrom (wordIn x) (at + 1) ≡ padded 32 noUse us =
+    let same : usesRead (wordIn x) (at + 1) ≡ padded 32 noUse us =
     build-same (useAt (wordIn x) (at + 1)) (λ m. getD (padded 32 noUse us) m noUse) 32 (λ m h. uses m h ∙ sym (padded-at 32 noUse us m h))
     ∙ build-back (padded 32 noUse us) 32 noUse (length-padded 32 noUse us) in
     ap₂ (λ (a : ℕ) (l : List ℕ). a ∷ l) (counted-is (length us) (omega arith) ∙ sym count)
@@ -62,7 +62,7 @@ line-at x at us few count uses =
 pub line-put :
     (w x : List ℕ) (at : ℕ) (us : List Use) → length us ≤ 32 → length x ≡ length w → at + 97 ≤ length w → wordIn x at ≡ length us
     → ((m : ℕ) → m < 32 → useAt (wordIn x) (at + 1) m ≡ getD us m noUse) → ((k : ℕ) → k < at → getD x k 0 ≡ getD w k 0)
-    → ((k : ℕ) → at + 97 ≤ k → getD x k 0 ≡ getD w k 0) → x ≡ put w at (lineWords (heldLine us))
+    → ((k : ℕ) → at + 97 ≤ k → getD x k 0 ≡ getD w k 0) → x ≡ put w at (lineWords (lineFrom us))
 line-put w x at us few e room count uses below from =
     put-is w x at l e (omega (arith, size)) inside below (λ k h. from k (omega (arith, size))) ∙ ap (put w at) (sym (line-at x at us few count uses))
   where

@@ -13,10 +13,10 @@ use native.Mathlib.Numerals.{add-one}
 use native.Mathlib.Omega.{arith}
 use Rattle.plain.specs.declared.Use.{Use}
 use Rattle.plain.specs.Plain.{noUse, staying}
-use Rattle.lines.specs.Held.{lineOf, lineFrom as heldLine}
+use Rattle.lines.specs.Held.{lineOf, lineFrom}
 use Rattle.lines.proofs.LeavingLaws.{few-stay, staying-append}
 use Rattle.lists.specs.Loops.{rewritten}
-use Rattle.boardwords.specs.Words.{wordIn, useFrom, useAt, usesFrom, lineFrom}
+use Rattle.boardwords.specs.Words.{wordIn, useRead, useAt, usesRead, lineRead}
 use Rattle.boardwords.specs.Codec.{useWords, lineWords, put}
 use Rattle.lists.proofs.Build.{build-length, build-at, past}
 use Rattle.linewords.specs.Thinned.{Thinned}
@@ -28,10 +28,10 @@ use Rattle.linewords.proofs.Lines.{same-use, cleared-put}
 
 module _ (f m : ℕ) (w₀ : List ℕ) (at : ℕ) where
   abbrev pub left : ℕ → List Use
-  left k = staying f m (take k (usesFrom (wordIn w₀) at))
+  left k = staying f m (take k (usesRead (wordIn w₀) at))
 
   pub left-few : (k : ℕ) → length (left k) ≤ k
-  left-few k = let us : List Use = usesFrom (wordIn w₀) at in omega (arith, few-stay f m (take k us), length-take k us)
+  left-few k = let us : List Use = usesRead (wordIn w₀) at in omega (arith, few-stay f m (take k us), length-take k us)
 
   pub thin-size : 0 ≡ length (left 0)
   unfolding staying
@@ -44,7 +44,7 @@ module _ (f m : ℕ) (w₀ : List ℕ) (at : ℕ) where
   -- one more use, and what stays of it
   left-more : (k : ℕ) → k < 32 → left (k + 1) ≡ left k ++ staying f m (useAt (wordIn w₀) at k ∷ [])
   left-more k h =
-      let us : List Use = usesFrom (wordIn w₀) at in
+      let us : List Use = usesRead (wordIn w₀) at in
       let size : length us ≡ 32 = build-length (useAt (wordIn w₀) at) 32 in
       ap left (add-one k)
       ∙ ap (staying f m) (take-suc us k noUse (omega arith))
@@ -93,7 +93,7 @@ module _ (f m : ℕ) (w₀ : List ℕ) (at : ℕ) where
 
   pub thin-more :
       (w x : List ℕ) (n k : ℕ) (u v : Use) (c : ℕ) → at + 96 ≤ length w → k < 32 → n ≡ length (left k) → Thinned w₀ w at k (left k)
-      → u ≡ useFrom (wordIn w) (at + 3 * k) → v ≡ getD (staying f m (u ∷ [])) 0 noUse → c ≡ length (staying f m (u ∷ []))
+      → u ≡ useRead (wordIn w) (at + 3 * k) → v ≡ getD (staying f m (u ∷ [])) 0 noUse → c ≡ length (staying f m (u ∷ []))
       → x ≡ put w (at + 3 * n) (useWords v) → (n + c ≡ length (left (k + 1))) × Thinned w₀ x at (k + 1) (left (k + 1))
   thin-more w x n k u v c room h size t eu ev ec is =
       let o : List Use = staying f m (u ∷ []) in
@@ -111,10 +111,10 @@ module _ (f m : ℕ) (w₀ : List ℕ) (at : ℕ) where
 
 pub stay-put :
     (f m : ℕ) (w y x : List ℕ) (at n : ℕ) → at + 97 ≤ length w → wordIn w at ≤ 32 → length y ≡ length w
-    → n ≡ length (staying f m (lineOf (lineFrom (wordIn w) at)))
-    → Thinned w y (at + 1) (wordIn w at) (staying f m (lineOf (lineFrom (wordIn w) at)))
+    → n ≡ length (staying f m (lineOf (lineRead (wordIn w) at)))
+    → Thinned w y (at + 1) (wordIn w at) (staying f m (lineOf (lineRead (wordIn w) at)))
     → x ≡ rewritten (λ k. 0) (set y at n) (at + 1 + 3 * n) (at + 97)
-    → x ≡ put w at (lineWords (heldLine (staying f m (lineOf (lineFrom (wordIn w) at)))))
+    → x ≡ put w at (lineWords (lineFrom (staying f m (lineOf (lineRead (wordIn w) at)))))
 stay-put f m w y x at n room few len size t is =
     cleared-put w (set y at n) x at n us size (omega (arith, most)) room (length-set y at n ∙ len) (getD-set-same y at n 0 (omega arith))
     (λ i h. same-use (wordIn (set y at n)) (wordIn y) (at + 1 + 3 * i) (at + 1 + 3 * i) (other (at + 1 + 3 * i) (omega arith))
@@ -123,10 +123,10 @@ stay-put f m w y x at n room few len size t is =
     (λ k h. other k (omega arith) ∙ t .behind k (omega arith)) is
   where
     us : List Use
-    us = staying f m (lineOf (lineFrom (wordIn w) at))
+    us = staying f m (lineOf (lineRead (wordIn w) at))
 
     most : length us ≤ wordIn w at
-    most = omega (arith, few-stay f m (lineOf (lineFrom (wordIn w) at)), held-size (wordIn w) at few)
+    most = omega (arith, few-stay f m (lineOf (lineRead (wordIn w) at)), held-size (wordIn w) at few)
 
     other : (k : ℕ) → at + 1 ≤ k → getD (set y at n) k 0 ≡ getD y k 0
     other k h = getD-set-other y at k n 0 (λ c. omega arith)

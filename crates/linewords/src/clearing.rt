@@ -2,9 +2,9 @@
 ghost use mathlib.Core.Path.{_≡_};
 ghost use Prim.Native.Nat.{ℕ, _+_, _≤_};
 ghost use lib.ListN.{length, getD};
-ghost use Rattle.lines.specs.Held.{lineOf, linesOf, noLine, lineFrom as heldLine, linesFrom as heldFrom};
+ghost use Rattle.lines.specs.Held.{lineOf, linesOf, noLine, lineFrom, linesFrom};
 ghost use Rattle.lists.specs.Loops.{rewritten};
-ghost use Rattle.boardwords.specs.Words.{wordIn, lineFrom, linesFrom};
+ghost use Rattle.boardwords.specs.Words.{wordIn, lineRead, linesRead};
 ghost use Rattle.boardwords.specs.Codec.{lineWords, linesWords, put};
 
 // 0 in the words from `from` on and before `to`.
@@ -20,7 +20,7 @@ pub fn clear(w: &mut [u32], from: usize, to: usize)
 // The line at word `at`, with 0 in every place not in use.
 fn tidy_line(w: &mut [u32], at: usize)
     requires { ⌜ (at + 97 ≤ length (now w)) × (wordIn (now w) at ≤ 32) ⌝ }
-    ensures { λ _. ⌜ now (w .exit) ≡ put (now (w .entry)) at (lineWords (heldLine (lineOf (lineFrom (wordIn (now (w .entry))) at)))) ⌝ }
+    ensures { λ _. ⌜ now (w .exit) ≡ put (now (w .entry)) at (lineWords (lineFrom (lineOf (lineRead (wordIn (now (w .entry))) at)))) ⌝ }
 {
     let count = w[at] as usize;
     clear(w, at + 1 + 3 * count, at + 97);
@@ -29,8 +29,8 @@ fn tidy_line(w: &mut [u32], at: usize)
 // The lines of a board, with 0 in every place not in use.
 pub fn tidy_lines(w: &mut [u32])
     requires { ⌜ 1604 ≤ length (now w) ⌝ }
-    requires { ⌜ ((k : ℕ) → getD (linesFrom (wordIn (now w))) k noLine .count ≤ 32) ⌝ }
-    ensures { λ _. ⌜ now (w .exit) ≡ put (now (w .entry)) 52 (linesWords (heldFrom (linesOf (linesFrom (wordIn (now (w .entry))))))) ⌝ }
+    requires { ⌜ ((k : ℕ) → getD (linesRead (wordIn (now w))) k noLine .count ≤ 32) ⌝ }
+    ensures { λ _. ⌜ now (w .exit) ≡ put (now (w .entry)) 52 (linesWords (linesFrom (linesOf (linesRead (wordIn (now (w .entry))))))) ⌝ }
 {
     for k in 0..16 {
         tidy_line(w, 52 + 97 * k);

@@ -9,8 +9,8 @@ ghost use mathlib.Core.List.{map};
 ghost use Prim.Native.Nat.{ℕ, _+_, _≤_};
 ghost use lib.ListN.{length, getD, take};
 ghost use Rattle.plain.specs.Plain.{staying};
-ghost use Rattle.lines.specs.Held.{lineOf, linesOf, noLine, lineFrom as heldLine, linesFrom as heldFrom};
-ghost use Rattle.boardwords.specs.Words.{wordIn, usesFrom, lineFrom, linesFrom};
+ghost use Rattle.lines.specs.Held.{lineOf, linesOf, noLine, lineFrom, linesFrom};
+ghost use Rattle.boardwords.specs.Words.{wordIn, usesRead, lineRead, linesRead};
 ghost use Rattle.boardwords.specs.Codec.{lineWords, linesWords, put};
 ghost use Rattle.linewords.specs.Thinned.{Thinned};
 
@@ -18,9 +18,9 @@ ghost use Rattle.linewords.specs.Thinned.{Thinned};
 // none is written over before it is read; one that leaves writes 0 there, and the next is written over it.
 fn stay_uses(w: &mut [u32], at: usize, count: usize, f: u32, m: u32) -> usize
     requires { ⌜ (at + 96 ≤ length (now w)) × (count ≤ 32) × (f + m ≤ 65) ⌝ }
-    ensures size { λ r. ⌜ r ≡ length (staying f m (take count (usesFrom (wordIn (now (w .entry))) at))) ⌝ }
+    ensures size { λ r. ⌜ r ≡ length (staying f m (take count (usesRead (wordIn (now (w .entry))) at))) ⌝ }
     ensures few { λ r. ⌜ r ≤ count ⌝ }
-    ensures words { λ _. ⌜ Thinned (now (w .entry)) (now (w .exit)) at count (staying f m (take count (usesFrom (wordIn (now (w .entry))) at))) ⌝ }
+    ensures words { λ _. ⌜ Thinned (now (w .entry)) (now (w .exit)) at count (staying f m (take count (usesRead (wordIn (now (w .entry))) at))) ⌝ }
 {
     let mut next = 0;
     for k in 0..count {
@@ -34,7 +34,7 @@ fn stay_uses(w: &mut [u32], at: usize, count: usize, f: u32, m: u32) -> usize
 // The line at word `at` without the uses of points that leave.
 fn stay_line(w: &mut [u32], at: usize, f: u32, m: u32)
     requires { ⌜ (at + 97 ≤ length (now w)) × (wordIn (now w) at ≤ 32) × (f + m ≤ 65) ⌝ }
-    ensures { λ _. ⌜ now (w .exit) ≡ put (now (w .entry)) at (lineWords (heldLine (staying f m (lineOf (lineFrom (wordIn (now (w .entry))) at))))) ⌝ }
+    ensures { λ _. ⌜ now (w .exit) ≡ put (now (w .entry)) at (lineWords (lineFrom (staying f m (lineOf (lineRead (wordIn (now (w .entry))) at))))) ⌝ }
 {
     let count = w[at] as usize;
     let left = stay_uses(w, at + 1, count, f, m);
@@ -45,9 +45,9 @@ fn stay_line(w: &mut [u32], at: usize, f: u32, m: u32)
 // The lines of a board without the uses of points that leave.
 pub fn stay_lines(w: &mut [u32], f: u32, m: u32)
     requires { ⌜ 1604 ≤ length (now w) ⌝ }
-    requires { ⌜ ((k : ℕ) → getD (linesFrom (wordIn (now w))) k noLine .count ≤ 32) ⌝ }
+    requires { ⌜ ((k : ℕ) → getD (linesRead (wordIn (now w))) k noLine .count ≤ 32) ⌝ }
     requires { ⌜ f + m ≤ 65 ⌝ }
-    ensures { λ _. ⌜ now (w .exit) ≡ put (now (w .entry)) 52 (linesWords (heldFrom (map (staying f m) (linesOf (linesFrom (wordIn (now (w .entry)))))))) ⌝ }
+    ensures { λ _. ⌜ now (w .exit) ≡ put (now (w .entry)) 52 (linesWords (linesFrom (map (staying f m) (linesOf (linesRead (wordIn (now (w .entry)))))))) ⌝ }
 {
     for k in 0..16 {
         stay_line(w, 52 + 97 * k, f, m);

@@ -3,7 +3,7 @@
 --   Call               a call's arguments: raw bytes and numbers
 --   Point              a live point by its number, the origin 0; or a retired one
 --   Book               the plain machine's state, and every rule made so far
---   Possible b u       the timetable u over the live points is possible, completed (`joined`) by numbers for the retired ones
+--   Possible b u       the timetable u over the live points is possible, `completed` by numbers for the retired ones
 --   SomePossible b             some timetable is possible
 --   LeastTime Y x v    v is the least time of x over the timetables Y: attained, and never below;  GreatestTime: the greatest, never above
 --   LargestGap Y i j d d is the largest time of j minus time of i over the timetables Y: attained, and never passed
@@ -58,14 +58,14 @@ fresh H D = record { state = record { jobs = []; lines = emptyLines 16; clock = 
 -- ---- what is possible
 
 -- times for the live points, completed by numbers for the retired ones
-unfoldable pub joined : Times → (ℕ → ℤ) → Point → ℤ
-joined u g (live x) = u x
-joined u g (gone x) = g x
+unfoldable pub completed : Times → (ℕ → ℤ) → Point → ℤ
+completed u g (live x) = u x
+completed u g (gone x) = g x
 
 -- "A timetable gives each point a whole number, the origin 0." It "is possible if some numbers for the retired points complete it so that
 -- every rule is kept". What u gives to numbers without a live point does not matter, since no rule names them
 unfoldable pub Possible : Book → Times → Type 0
-Possible b u = (u 0 ≡ pos 0) × ((g : ℕ → ℤ) × AllKept (joined u g) (b .rules))
+Possible b u = (u 0 ≡ pos 0) × ((g : ℕ → ℤ) × AllKept (completed u g) (b .rules))
 
 unfoldable pub SomePossible : Book → Type 0
 SomePossible b = (u : Times) × Possible b u

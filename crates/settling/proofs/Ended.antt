@@ -23,7 +23,7 @@ use Rattle.lines.specs.declared.Line.{Line}
 use Rattle.lines.specs.Held.{lineOf, linesOf, noLine}
 use Rattle.lines.specs.Asked.{AllShort, Lined}
 use Rattle.lines.proofs.Lists.{held-next, map-at}
-use Rattle.boardwords.specs.Words.{Words, useFrom, useAt, usesFrom, lineFrom, lineAt, linesFrom}
+use Rattle.boardwords.specs.Words.{Words, useRead, useAt, usesRead, lineRead, lineAt, linesRead}
 use Rattle.boardwords.proofs.Boards.{line-of}
 use Rattle.lists.proofs.Build.{build-length, build-at}
 use Rattle.stn.specs.Table.{bias, implied}
@@ -115,35 +115,35 @@ module _ (l : List ℕ) (c x : ℕ) (rs : List Rule) where
 
 -- ---- uses read one by one
 
-module _ (w : Words) (at k : ℕ) (few : w at ≤ 32) (h : k < w at) (u : Use) (is : u ≡ useFrom w (at + 1 + 3 * k)) where
-  use-at : getD (usesFrom w (at + 1)) k noUse ≡ u
+module _ (w : Words) (at k : ℕ) (few : w at ≤ 32) (h : k < w at) (u : Use) (is : u ≡ useRead w (at + 1 + 3 * k)) where
+  use-at : getD (usesRead w (at + 1)) k noUse ≡ u
   use-at = build-at (useAt w (at + 1)) 32 k noUse (omega arith) ∙ sym is
 
-  pub read-at : getD (lineOf (lineFrom w at)) k noUse ≡ u
-  read-at = getD-take (w at) (usesFrom w (at + 1)) k noUse h ∙ use-at
+  pub read-at : getD (lineOf (lineRead w at)) k noUse ≡ u
+  read-at = getD-take (w at) (usesRead w (at + 1)) k noUse h ∙ use-at
 
-  pub read-next : drop k (lineOf (lineFrom w at)) ≡ u ∷ drop (k + 1) (lineOf (lineFrom w at))
+  pub read-next : drop k (lineOf (lineRead w at)) ≡ u ∷ drop (k + 1) (lineOf (lineRead w at))
   read-next =
-      held-next (w at) (usesFrom w (at + 1)) k noUse h (omega (arith, build-length (useAt w (at + 1)) 32))
-      ∙ ap (λ (a : Use). a ∷ drop (k + 1) (lineOf (lineFrom w at))) use-at
+      held-next (w at) (usesRead w (at + 1)) k noUse h (omega (arith, build-length (useAt w (at + 1)) 32))
+      ∙ ap (λ (a : Use). a ∷ drop (k + 1) (lineOf (lineRead w at))) use-at
 
 -- ---- lines of a board's words
 
-pub lined-read : (w : Words) (k : ℕ) → k < 16 → Lined (linesFrom w) → (w (52 + 97 * k) ≤ 32) × AllShort (lineOf (lineAt w k))
+pub lined-read : (w : Words) (k : ℕ) → k < 16 → Lined (linesRead w) → (w (52 + 97 * k) ≤ 32) × AllShort (lineOf (lineAt w k))
 lined-read w k h l =
-    let size : length (linesFrom w) ≡ 16 = build-length (lineAt w) 16 in
-    let held : getD (linesOf (linesFrom w)) k [] ≡ lineOf (lineAt w k) =
-    map-at lineOf (linesFrom w) k noLine [] (omega arith) ∙ ap lineOf (line-of w k h) in
+    let size : length (linesRead w) ≡ 16 = build-length (lineAt w) 16 in
+    let held : getD (linesOf (linesRead w)) k [] ≡ lineOf (lineAt w k) =
+    map-at lineOf (linesRead w) k noLine [] (omega arith) ∙ ap lineOf (line-of w k h) in
     (omega (arith, ap (λ (q : Line). q .count) (line-of w k h), l .counts k), subst AllShort held (l .short k))
 
 module _ (l : List ℕ) (c f m : ℕ) (w : Words) (k : ℕ) (ok : Bool)
-    (is : (ok && linesEnd l c f m (drop k (linesFrom w))) ≡ linesEnd l c f m (linesFrom w)) where
+    (is : (ok && linesEnd l c f m (drop k (linesRead w))) ≡ linesEnd l c f m (linesRead w)) where
   pub read-line-next :
       (test : Bool) → k < 16 → test ≡ usesEnd l c f m (lineOf (lineAt w k))
-      → (ok && test && linesEnd l c f m (drop (k + 1) (linesFrom w))) ≡ linesEnd l c f m (linesFrom w)
+      → (ok && test && linesEnd l c f m (drop (k + 1) (linesRead w))) ≡ linesEnd l c f m (linesRead w)
   read-line-next test h t =
-      lines-next l c f m (linesFrom w) k ok is test (omega (arith, build-length (lineAt w) 16))
+      lines-next l c f m (linesRead w) k ok is test (omega (arith, build-length (lineAt w) 16))
       (t ∙ ap (λ (q : Line). usesEnd l c f m (lineOf q)) (sym (line-of w k h)))
 
-  pub read-line-end : 16 ≤ k → ok ≡ linesEnd l c f m (linesFrom w)
-  read-line-end h = lines-end l c f m (linesFrom w) k ok is (omega (arith, build-length (lineAt w) 16))
+  pub read-line-end : 16 ≤ k → ok ≡ linesEnd l c f m (linesRead w)
+  read-line-end h = lines-end l c f m (linesRead w) k ok is (omega (arith, build-length (lineAt w) 16))

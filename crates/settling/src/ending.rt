@@ -14,7 +14,7 @@ ghost use Rattle.lines.specs.Held.{lineOf, linesOf};
 ghost use Rattle.lines.specs.Asked.{Short, AllShort, Lined};
 ghost use Rattle.stn.specs.Table.{implied};
 ghost use Rattle.gaps.specs.Cells.{tableOf};
-ghost use Rattle.boardwords.specs.Words.{wordIn, lineFrom, linesFrom};
+ghost use Rattle.boardwords.specs.Words.{wordIn, lineRead, linesRead};
 ghost use Rattle.settling.specs.Ending.{InReach};
 
 // A use of a point that leaves ends by the clock; nothing is asked of one that stays.
@@ -31,8 +31,8 @@ fn use_ends(t: &[u32], clock: u32, f: u32, m: u32, u: Use) -> bool
 
 // Each use of the line at word `at`.
 fn line_ends(t: &[u32], clock: u32, f: u32, m: u32, w: &[u32], at: usize) -> bool
-    requires { ⌜ InReach (now t) clock f m × (at + 97 ≤ length (now w)) × (wordIn (now w) at ≤ 32) × AllShort (lineOf (lineFrom (wordIn (now w)) at)) ⌝ }
-    ensures { λ r. ⌜ r ≡ implied (tableOf (now (t .entry))) (endsBy clock f m (lineOf (lineFrom (wordIn (now (w .entry))) at))) ⌝ }
+    requires { ⌜ InReach (now t) clock f m × (at + 97 ≤ length (now w)) × (wordIn (now w) at ≤ 32) × AllShort (lineOf (lineRead (wordIn (now w)) at)) ⌝ }
+    ensures { λ r. ⌜ r ≡ implied (tableOf (now (t .entry))) (endsBy clock f m (lineOf (lineRead (wordIn (now (w .entry))) at))) ⌝ }
 {
     let count = w[at] as usize;
     let mut ok = true;
@@ -45,8 +45,8 @@ fn line_ends(t: &[u32], clock: u32, f: u32, m: u32, w: &[u32], at: usize) -> boo
 
 // Each use of all lines of a board, read where they lie in its words.
 fn lines_end(t: &[u32], clock: u32, f: u32, m: u32, w: &[u32]) -> bool
-    requires { ⌜ InReach (now t) clock f m × (1604 ≤ length (now w)) × Lined (linesFrom (wordIn (now w))) ⌝ }
-    ensures { λ r. ⌜ r ≡ implied (tableOf (now (t .entry))) (allEndBy clock f m (linesOf (linesFrom (wordIn (now (w .entry)))))) ⌝ }
+    requires { ⌜ InReach (now t) clock f m × (1604 ≤ length (now w)) × Lined (linesRead (wordIn (now w))) ⌝ }
+    ensures { λ r. ⌜ r ≡ implied (tableOf (now (t .entry))) (allEndBy clock f m (linesOf (linesRead (wordIn (now (w .entry)))))) ⌝ }
 {
     let mut ok = true;
     for k in 0..16 {
@@ -57,8 +57,8 @@ fn lines_end(t: &[u32], clock: u32, f: u32, m: u32, w: &[u32]) -> bool
 
 // The last point and each use of the points that leave end by the clock.
 pub fn are_over(t: &[u32], clock: u32, f: u32, m: u32, w: &[u32]) -> bool
-    requires { ⌜ InReach (now t) clock f m × (1 ≤ m) × (1604 ≤ length (now w)) × Lined (linesFrom (wordIn (now w))) ⌝ }
-    ensures { λ r. ⌜ r ≡ implied (tableOf (now (t .entry))) (notAfter (f + m - 1) clock ∷ allEndBy clock f m (linesOf (linesFrom (wordIn (now (w .entry)))))) ⌝ }
+    requires { ⌜ InReach (now t) clock f m × (1 ≤ m) × (1604 ≤ length (now w)) × Lined (linesRead (wordIn (now w))) ⌝ }
+    ensures { λ r. ⌜ r ≡ implied (tableOf (now (t .entry))) (notAfter (f + m - 1) clock ∷ allEndBy clock f m (linesOf (linesRead (wordIn (now (w .entry)))))) ⌝ }
 {
     let last = (f + m - 1) as usize;
     if BIAS + clock < t[last] {

@@ -18,7 +18,7 @@ use Rattle.lines.specs.declared.Line.{Line}
 use Rattle.lines.specs.Held.{jobsOf, lineOf, noJob, noLine}
 use Rattle.lines.proofs.Lists.{held-next, held-over}
 use Rattle.lists.specs.Loops.{allBelow}
-use Rattle.boardwords.specs.Words.{Words, wordIn, jobAt, jobsFrom, heldJobs, boardIn, useAt, lineFrom, lineAt, linesFrom, usesFrom, boardFrom, decoded, allMarked, marked}
+use Rattle.boardwords.specs.Words.{Words, wordIn, jobAt, jobsRead, heldJobs, boardIn, useAt, lineRead, lineAt, linesRead, usesRead, boardRead, decoded, allMarked, isMarked}
 use Rattle.lists.proofs.Build.{build-length, build-at}
 use Rattle.boardwords.proofs.Lent.{lentTable, cells-lent}
 use Rattle.sound.specs.Sound.{framed, sound}
@@ -28,36 +28,36 @@ module _ (w : Words) (few : w 3 ≤ 16) where
   pub job-next :
       (k : ℕ) (j : Job) → k < w 3 → j ≡ jobAt w k → drop k (jobsOf (heldJobs w)) ≡ j ∷ drop (k + 1) (jobsOf (heldJobs w))
   job-next k j h e =
-      held-next (w 3) (jobsFrom w) k noJob h (omega (arith, build-length (jobAt w) 16))
+      held-next (w 3) (jobsRead w) k noJob h (omega (arith, build-length (jobAt w) 16))
       ∙ ap (λ (x : Job). x ∷ drop (k + 1) (jobsOf (heldJobs w))) (build-at (jobAt w) 16 k noJob (omega arith) ∙ sym e)
 
   pub job-over : (k : ℕ) → w 3 ≤ k → drop k (jobsOf (heldJobs w)) ≡ []
-  job-over k h = held-over (w 3) (jobsFrom w) k h
+  job-over k h = held-over (w 3) (jobsRead w) k h
 
 module _ (w : Words) (at : ℕ) (small : w at ≤ 32) where
-  long : length (usesFrom w (at + 1)) ≡ 32
+  long : length (usesRead w (at + 1)) ≡ 32
   long = build-length (useAt w (at + 1)) 32
 
-  pub use-next : (k : ℕ) (u : Use) → k < w at → u ≡ useAt w (at + 1) k → drop k (lineOf (lineFrom w at)) ≡ u ∷ drop (k + 1) (lineOf (lineFrom w at))
+  pub use-next : (k : ℕ) (u : Use) → k < w at → u ≡ useAt w (at + 1) k → drop k (lineOf (lineRead w at)) ≡ u ∷ drop (k + 1) (lineOf (lineRead w at))
   use-next k u h e =
-      held-next (w at) (usesFrom w (at + 1)) k noUse h (omega (arith, long))
-      ∙ ap (λ (x : Use). x ∷ drop (k + 1) (lineOf (lineFrom w at))) (build-at (useAt w (at + 1)) 32 k noUse (omega arith) ∙ sym e)
+      held-next (w at) (usesRead w (at + 1)) k noUse h (omega (arith, long))
+      ∙ ap (λ (x : Use). x ∷ drop (k + 1) (lineOf (lineRead w at))) (build-at (useAt w (at + 1)) 32 k noUse (omega arith) ∙ sym e)
 
-  pub use-over : (k : ℕ) → w at ≤ k → drop k (lineOf (lineFrom w at)) ≡ []
-  use-over k h = held-over (w at) (usesFrom w (at + 1)) k h
+  pub use-over : (k : ℕ) → w at ≤ k → drop k (lineOf (lineRead w at)) ≡ []
+  use-over k h = held-over (w at) (usesRead w (at + 1)) k h
 
-pub lines-next : (w : Words) (k : ℕ) → k < 16 → drop k (linesFrom w) ≡ lineAt w k ∷ drop (k + 1) (linesFrom w)
+pub lines-next : (w : Words) (k : ℕ) → k < 16 → drop k (linesRead w) ≡ lineAt w k ∷ drop (k + 1) (linesRead w)
 lines-next w k h =
-    left-next (linesFrom w) k noLine (omega (arith, build-length (lineAt w) 16))
-    ∙ ap (λ (x : Line). x ∷ drop (k + 1) (linesFrom w)) (build-at (lineAt w) 16 k noLine h)
+    left-next (linesRead w) k noLine (omega (arith, build-length (lineAt w) 16))
+    ∙ ap (λ (x : Line). x ∷ drop (k + 1) (linesRead w)) (build-at (lineAt w) 16 k noLine h)
 
 pub framed-in : (w : List ℕ) → length w ≡ 5829 → allMarked (wordIn w) ≡ true → framed (wordIn w) (lentTable w) ≡ boardIn w
 framed-in w len marks = rw (marks, cells-lent w len) refl
 
-pub unmarked : (w : Words) → allMarked w ≡ false → sound (boardFrom w) ≡ false
+pub unmarked : (w : Words) → allMarked w ≡ false → sound (boardRead w) ≡ false
 unfolding sound
 unmarked w e = rw e refl
 
 pub not-whole : (s : List ℕ) → eqb (length s) 23316 ≡ false → sound (decoded s .board) ≡ false
-unfolding sound decoded allMarked allBelow marked
+unfolding sound decoded allMarked allBelow isMarked
 not-whole s e = rw e refl

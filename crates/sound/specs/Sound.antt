@@ -29,7 +29,7 @@ use Rattle.stn.specs.Table.{bias}
 use Rattle.gaps.specs.Cells.{cell}
 use Rattle.gaps.specs.GapTable.{GapTable, isGapTable}
 use Rattle.boardwords.specs.declared.Board.{Board}
-use Rattle.boardwords.specs.Words.{Words, heldJobs, linesFrom}
+use Rattle.boardwords.specs.Words.{Words, heldJobs, linesRead}
 
 -- ---- the definition
 
@@ -128,4 +128,4 @@ sound b =
 
 -- a board of the numbers, jobs and lines of words, with these cells
 abbrev pub framed : Words → List ℕ → Board
-framed w l = record { horizon = w 0; lead = w 1; clock = w 2; jobs = heldJobs w; lines = linesFrom w; gaps = l }
+framed w l = record { horizon = w 0; lead = w 1; clock = w 2; jobs = heldJobs w; lines = linesRead w; gaps = l }

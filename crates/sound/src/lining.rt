@@ -5,7 +5,7 @@ ghost use mathlib.Core.Path.{_≡_};
 ghost use Prim.Native.Nat.{_+_, _≤_};
 ghost use lib.ListN.{length};
 ghost use Rattle.lines.specs.Held.{lineOf};
-ghost use Rattle.boardwords.specs.Words.{wordIn, lineFrom, linesFrom};
+ghost use Rattle.boardwords.specs.Words.{wordIn, lineRead, linesRead};
 ghost use Rattle.sound.specs.Sound.{allOf, sizedUse, sizedLine};
 
 fn is_use_sized(u: Use, n: u32) -> bool
@@ -21,7 +21,7 @@ fn is_use_sized(u: Use, n: u32) -> bool
 // The uses in use of the line at word `at`.
 fn are_uses_sized(w: &[u32], at: usize, n: u32) -> bool
     requires { ⌜ (at + 97 ≤ length (now w)) × (wordIn (now w) at ≤ 32) ⌝ }
-    ensures { λ r. ⌜ r ≡ allOf (sizedUse n) (lineOf (lineFrom (wordIn (now (w .entry))) at)) ⌝ }
+    ensures { λ r. ⌜ r ≡ allOf (sizedUse n) (lineOf (lineRead (wordIn (now (w .entry))) at)) ⌝ }
 {
     let count = w[at] as usize;
     let mut ok = true;
@@ -34,7 +34,7 @@ fn are_uses_sized(w: &[u32], at: usize, n: u32) -> bool
 
 fn is_line_sized(w: &[u32], at: usize, n: u32) -> bool
     requires { ⌜ at + 97 ≤ length (now w) ⌝ }
-    ensures { λ r. ⌜ r ≡ sizedLine n (lineFrom (wordIn (now (w .entry))) at) ⌝ }
+    ensures { λ r. ⌜ r ≡ sizedLine n (lineRead (wordIn (now (w .entry))) at) ⌝ }
 {
     if 32 < w[at] {
         return false;
@@ -44,7 +44,7 @@ fn is_line_sized(w: &[u32], at: usize, n: u32) -> bool
 
 pub fn are_lines_sized(w: &[u32], n: u32) -> bool
     requires { ⌜ 1604 ≤ length (now w) ⌝ }
-    ensures { λ r. ⌜ r ≡ allOf (sizedLine n) (linesFrom (wordIn (now (w .entry)))) ⌝ }
+    ensures { λ r. ⌜ r ≡ allOf (sizedLine n) (linesRead (wordIn (now (w .entry)))) ⌝ }
 {
     let mut ok = true;
     for k in 0..16 {

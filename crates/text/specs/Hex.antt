@@ -5,8 +5,8 @@
 --   bytesTo s n         the first n bytes
 --   isDash s            s is `-`
 --   pairsDecoded s n    what decoding n pairs of s answers
---   decoded s room      what decoding s into so much room answers
---   Holds s out r       what stands in the buffer after the answer r
+--   hexDecoded s room   what decoding s into so much room answers
+--   HoldsBytes s out r  what stands in the buffer after the answer r
 --   pairOf b            the two digits of a byte
 --   encodedTo s n       the hex of the first n bytes of s
 --   encoded s           s as hex
@@ -48,19 +48,19 @@ isDash s = eqb (length s) 1 && eqb (getD s 0 0) 45
 unfoldable pub pairsDecoded : List ℕ → ℕ → Decoded
 pairsDecoded s n = cond (allBelow (pairAt s) n) (Bytes n) BadDigit
 
-unfoldable pub decoded : List ℕ → ℕ → Decoded
-decoded s room =
+unfoldable pub hexDecoded : List ℕ → ℕ → Decoded
+hexDecoded s room =
     cond (isDash s) (Bytes 0)
     (cond (eqb (length s) 0) Empty
     (cond (eqb (length s % 2) 1) Odd
     (cond (ltb room (length s / 2)) NoRoom (pairsDecoded s (length s / 2)))))
 
-abbrev pub Holds : List ℕ → List ℕ → Decoded → Type 0
-Holds s out (Bytes n) = (n ≤ length out) × (take n out ≡ bytesTo s n)
-Holds s out Empty = Unit {0}
-Holds s out Odd = Unit {0}
-Holds s out BadDigit = Unit {0}
-Holds s out NoRoom = Unit {0}
+abbrev pub HoldsBytes : List ℕ → List ℕ → Decoded → Type 0
+HoldsBytes s out (Bytes n) = (n ≤ length out) × (take n out ≡ bytesTo s n)
+HoldsBytes s out Empty = Unit {0}
+HoldsBytes s out Odd = Unit {0}
+HoldsBytes s out BadDigit = Unit {0}
+HoldsBytes s out NoRoom = Unit {0}
 
 abbrev pub pairOf : ℕ → List ℕ
 pairOf b = glyph (b / 16 % 16) ∷ glyph (b % 16) ∷ []

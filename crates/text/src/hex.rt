@@ -3,7 +3,7 @@ ghost use mathlib.Core.Path.{_≡_};
 ghost use Prim.Native.Nat.{_*_, _%_, _≤_};
 ghost use lib.ListN.{length};
 ghost use Rattle.io.specs.Digits.{glyph};
-ghost use Rattle.text.specs.Hex.{Holds, decoded, digitValue, encoded, encodedTo, isDash, pairOf, pairsDecoded};
+ghost use Rattle.text.specs.Hex.{HoldsBytes, hexDecoded, digitValue, encoded, encodedTo, isDash, pairOf, pairsDecoded};
 ghost use Rattle.text.specs.Written.{Written};
 use crate::output::put;
 use crate::search::least;
@@ -19,8 +19,8 @@ pub enum Decoded {
 
 // Puts the bytes that the hex spells at the start of out.
 pub fn decode_hex(s: &[u8], out: &mut [u8]) -> Decoded
-    ensures { λ r. ⌜ r ≡ decoded (now (s .entry)) (length (now (out .entry))) ⌝ }
-    ensures { λ r. ⌜ Holds (now (s .entry)) (now (out .exit)) r ⌝ }
+    ensures { λ r. ⌜ r ≡ hexDecoded (now (s .entry)) (length (now (out .entry))) ⌝ }
+    ensures { λ r. ⌜ HoldsBytes (now (s .entry)) (now (out .exit)) r ⌝ }
 {
     if is_dash(s) {
         return Decoded::Bytes(0);
@@ -51,7 +51,7 @@ fn is_dash(s: &[u8]) -> bool
 fn decode_pairs(s: &[u8], out: &mut [u8], n: usize) -> Decoded
     requires { ⌜ (2 * n ≤ length (now s)) × (n ≤ length (now out)) ⌝ }
     ensures { λ r. ⌜ r ≡ pairsDecoded (now (s .entry)) n ⌝ }
-    ensures { λ r. ⌜ Holds (now (s .entry)) (now (out .exit)) r ⌝ }
+    ensures { λ r. ⌜ HoldsBytes (now (s .entry)) (now (out .exit)) r ⌝ }
 {
     let mut i: usize = 0;
     while i < n {

@@ -8,7 +8,7 @@ use native.Mathlib.Numerals.{add-one}
 use native.Mathlib.Omega.{arith}
 use borrow.Author.Needs.{needs}
 use Rattle.lines.specs.declared.Line.{Line}
-use Rattle.boardwords.specs.Words.{wordIn, heldJobs, linesFrom}
+use Rattle.boardwords.specs.Words.{wordIn, heldJobs, linesRead}
 use Rattle.gaps.specs.GapTable.{isGapTable}
 use Rattle.sound.specs.Sound.{allOf, sizedLine, sound}
 use Rattle.sound.proofs.Flags.{fails, passes, holds, breaks}
@@ -30,7 +30,7 @@ returns : tie.Need-returns
 unfolding sound
 returns c = let entry = c .before .before .before .before in
     let w = wordIn (entry .args .w .now) in
-    passes (entry .pre .1 .0) (passes (entry .pre .1 .1) (fails _ (breaks (lines-test (linesFrom w) (c .before .are-lines-sized .ensures) (entry .pre .1 .2)) (c .if1 .taken))))
+    passes (entry .pre .1 .0) (passes (entry .pre .1 .1) (fails _ (breaks (lines-test (linesRead w) (c .before .are-lines-sized .ensures) (entry .pre .1 .2)) (c .if1 .taken))))
 
 is-sent-first-requires : tie.Need-is-sent-first-requires
 is-sent-first-requires c κs = let entry = c .before .before .before .before in (entry .pre .0 .0, jobs-sized (heldJobs (wordIn (entry .args .w .now))) (entry .pre .1 .1) .count)
@@ -39,7 +39,7 @@ returns-2 : tie.Need-returns-2
 unfolding sound
 returns-2 c = let entry = c .before .before .before .before .before .before in
     let w = wordIn (entry .args .w .now) in
-    let lined = holds (lines-test (linesFrom w) (c .before .before .before .are-lines-sized .ensures) (entry .pre .1 .2)) (c .before .before .if1 .left) in
+    let lined = holds (lines-test (linesRead w) (c .before .before .before .are-lines-sized .ensures) (entry .pre .1 .2)) (c .before .before .if1 .left) in
     passes (entry .pre .1 .0) (passes (entry .pre .1 .1) (passes lined (fails _ (breaks (c .before .is-sent-first .ensures) (c .if2 .taken)))))
 
 add-is-gap-table : tie.Need-add-is-gap-table
@@ -58,7 +58,7 @@ returns-3 : tie.Need-returns-3
 unfolding sound
 returns-3 c = let entry = c .before .before .before .before .before .before .before .before .before in
     let w = wordIn (entry .args .w .now) in
-    let lined = holds (lines-test (linesFrom w) (c .before .before .before .before .before .before .are-lines-sized .ensures) (entry .pre .1 .2)) (c .before .before .before .before .before .if1 .left) in
+    let lined = holds (lines-test (linesRead w) (c .before .before .before .before .before .before .are-lines-sized .ensures) (entry .pre .1 .2)) (c .before .before .before .before .before .if1 .left) in
     let first = holds (c .before .before .before .before .is-sent-first .ensures) (c .before .before .before .if2 .left) in
     let table = breaks (table-test (entry .args .t .now) (w 0) (c .before .is-gap-table .ensures) (entry .pre .1 .2)) (c .if3 .taken) in
     passes (entry .pre .1 .0) (passes (entry .pre .1 .1) (passes lined (passes first (fails _ table))))
@@ -71,7 +71,7 @@ returns-4 : tie.Need-returns-4
 unfolding sound
 returns-4 c = let entry = c .before .before .before .before .before .before .before .before .before .before in
     let w = wordIn (entry .args .w .now) in
-    let lined = holds (lines-test (linesFrom w) (c .before .before .before .before .before .before .before .are-lines-sized .ensures) (entry .pre .1 .2)) (c .before .before .before .before .before .before .if1 .left) in
+    let lined = holds (lines-test (linesRead w) (c .before .before .before .before .before .before .before .are-lines-sized .ensures) (entry .pre .1 .2)) (c .before .before .before .before .before .before .if1 .left) in
     let first = holds (c .before .before .before .before .before .is-sent-first .ensures) (c .before .before .before .before .if2 .left) in
     let table = holds (table-test (entry .args .t .now) (w 0) (c .before .before .is-gap-table .ensures) (entry .pre .1 .2)) (c .before .if3 .left) in
     passes (entry .pre .1 .0) (passes (entry .pre .1 .1) (passes lined (passes first (passes table (c .is-sent-still .ensures)))))

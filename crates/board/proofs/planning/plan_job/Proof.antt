@@ -6,7 +6,7 @@ use borrow.Author.Tests.{not-true, not-false}
 use Prim.Native.Nat.{suc}
 use mathlib.Core.Path.{refl, _∙_, ap}
 use native.Mathlib.Numerals.{add-one}
-use Rattle.lines.specs.Held.{offerOf}
+use Rattle.lines.specs.Held.{heldOffer}
 use Rattle.boardwords.specs.Words.{boardIn}
 use Rattle.boardwords.proofs.Lent.{length-lent}
 use Rattle.board.proofs.InWords.{jobs-sized, unanswered}
@@ -55,7 +55,7 @@ add-try-grown : tie.Need-add-try-grown
 add-try-grown c = search needs
 
 try-grown-requires : tie.Need-try-grown-requires
-try-grown-requires c κs = let p = plan-words (c .before .before .before .before .before .before .before .before .before .before .before .before .args .w .now) (c .before .before .before .before .before .before .before .before .before .before .before .before .pre .0) (c .before .before .before .before .before .before .before .before .before .before .before .before .pre .1 .0) (offerOf (c .before .before .before .before .before .before .before .before .before .before .before .before .args .batch) (c .before .before .before .before .before .before .before .before .before .before .before .before .args .steps) (c .before .before .before .before .before .before .before .before .before .before .before .before .args .puts)) (c .before .before .before .before .before .before .before .before .before .before .before .before .pre .1 .5) _ _ (c .before .before .before .before .before .before .draft-on .ensures .0) (c .before .before .before .enum-told .given .1) _ (c .before .before .before .before .before .before .before .before .before .before .before .before .pre .1 .1) _ _ (c .before .live-count .ensures) (add-one _ ∙ ap suc (c .before .before .before .before .before .before .before .before .before .before .before .before .pre .1 .2)) in
+try-grown-requires c κs = let p = plan-words (c .before .before .before .before .before .before .before .before .before .before .before .before .args .w .now) (c .before .before .before .before .before .before .before .before .before .before .before .before .pre .0) (c .before .before .before .before .before .before .before .before .before .before .before .before .pre .1 .0) (heldOffer (c .before .before .before .before .before .before .before .before .before .before .before .before .args .batch) (c .before .before .before .before .before .before .before .before .before .before .before .before .args .steps) (c .before .before .before .before .before .before .before .before .before .before .before .before .args .puts)) (c .before .before .before .before .before .before .before .before .before .before .before .before .pre .1 .5) _ _ (c .before .before .before .before .before .before .draft-on .ensures .0) (c .before .before .before .enum-told .given .1) _ (c .before .before .before .before .before .before .before .before .before .before .before .before .pre .1 .1) _ _ (c .before .live-count .ensures) (add-one _ ∙ ap suc (c .before .before .before .before .before .before .before .before .before .before .before .before .pre .1 .2)) in
     ((length-lent (c .before .before .before .before .before .before .before .before .before .before .before .before .args .w .now) (c .before .before .before .before .before .before .before .before .before .before .before .before .pre .0), p .0 .0, p .0 .1, p .0 .2, p .0 .3), p .1)
 
 same-length-2 : tie.Need-same-length-2
@@ -63,7 +63,7 @@ same-length-2 c = search needs
 
 returns-2 : tie.Need-returns-2
 returns-2 c = let no = not-true _ (c .if1 .taken) in
-    plan-words (c .before .before .before .before .before .before .before .before .before .before .before .before .before .before .before .before .args .w .now) (c .before .before .before .before .before .before .before .before .before .before .before .before .before .before .before .before .pre .0) (c .before .before .before .before .before .before .before .before .before .before .before .before .before .before .before .before .pre .1 .0) (offerOf (c .before .before .before .before .before .before .before .before .before .before .before .before .before .before .before .before .args .batch) (c .before .before .before .before .before .before .before .before .before .before .before .before .before .before .before .before .args .steps) (c .before .before .before .before .before .before .before .before .before .before .before .before .before .before .before .before .args .puts)) (c .before .before .before .before .before .before .before .before .before .before .before .before .before .before .before .before .pre .1 .5) _ _ (c .before .before .before .before .before .before .before .before .before .before .draft-on .ensures .0) (c .before .before .before .before .before .before .before .enum-told .given .1) _ (c .before .before .before .before .before .before .before .before .before .before .before .before .before .before .before .before .pre .1 .1) _ _ (c .before .before .before .before .before .live-count .ensures) (add-one _ ∙ ap suc (c .before .before .before .before .before .before .before .before .before .before .before .before .before .before .before .before .pre .1 .2)) .2 _ _ (c .before .before .before .try-grown .ensures .0) .0 no (c .before .before .before .try-grown .ensures .1 no)
+    plan-words (c .before .before .before .before .before .before .before .before .before .before .before .before .before .before .before .before .args .w .now) (c .before .before .before .before .before .before .before .before .before .before .before .before .before .before .before .before .pre .0) (c .before .before .before .before .before .before .before .before .before .before .before .before .before .before .before .before .pre .1 .0) (heldOffer (c .before .before .before .before .before .before .before .before .before .before .before .before .before .before .before .before .args .batch) (c .before .before .before .before .before .before .before .before .before .before .before .before .before .before .before .before .args .steps) (c .before .before .before .before .before .before .before .before .before .before .before .before .before .before .before .before .args .puts)) (c .before .before .before .before .before .before .before .before .before .before .before .before .before .before .before .before .pre .1 .5) _ _ (c .before .before .before .before .before .before .before .before .before .before .draft-on .ensures .0) (c .before .before .before .before .before .before .before .enum-told .given .1) _ (c .before .before .before .before .before .before .before .before .before .before .before .before .before .before .before .before .pre .1 .1) _ _ (c .before .before .before .before .before .live-count .ensures) (add-one _ ∙ ap suc (c .before .before .before .before .before .before .before .before .before .before .before .before .before .before .before .before .pre .1 .2)) .2 _ _ (c .before .before .before .try-grown .ensures .0) .0 no (c .before .before .before .try-grown .ensures .1 no)
 
 put-front-requires : tie.Need-put-front-requires
 put-front-requires c κs = search needs
@@ -78,7 +78,7 @@ same-length-3 : tie.Need-same-length-3
 same-length-3 c = search needs
 
 returns-3 : tie.Need-returns-3
-returns-3 c = plan-words (c .before .before .before .before .before .before .before .before .before .before .before .before .before .before .before .before .before .before .before .before .before .before .before .before .before .before .args .w .now) (c .before .before .before .before .before .before .before .before .before .before .before .before .before .before .before .before .before .before .before .before .before .before .before .before .before .before .pre .0) (c .before .before .before .before .before .before .before .before .before .before .before .before .before .before .before .before .before .before .before .before .before .before .before .before .before .before .pre .1 .0) (offerOf (c .before .before .before .before .before .before .before .before .before .before .before .before .before .before .before .before .before .before .before .before .before .before .before .before .before .before .args .batch) (c .before .before .before .before .before .before .before .before .before .before .before .before .before .before .before .before .before .before .before .before .before .before .before .before .before .before .args .steps) (c .before .before .before .before .before .before .before .before .before .before .before .before .before .before .before .before .before .before .before .before .before .before .before .before .before .before .args .puts)) (c .before .before .before .before .before .before .before .before .before .before .before .before .before .before .before .before .before .before .before .before .before .before .before .before .before .before .pre .1 .5) _ _ (c .before .before .before .before .before .before .before .before .before .before .before .before .before .before .before .before .before .before .before .before .draft-on .ensures .0) (c .before .before .before .before .before .before .before .before .before .before .before .before .before .before .before .before .before .enum-told .given .1) _ (c .before .before .before .before .before .before .before .before .before .before .before .before .before .before .before .before .before .before .before .before .before .before .before .before .before .before .pre .1 .1) _ _ (c .before .before .before .before .before .before .before .before .before .before .before .before .before .before .before .live-count .ensures) (add-one _ ∙ ap suc (c .before .before .before .before .before .before .before .before .before .before .before .before .before .before .before .before .before .before .before .before .before .before .before .before .before .before .pre .1 .2)) .2 _ _ (c .before .before .before .before .before .before .before .before .before .before .before .before .before .try-grown .ensures .0) .1 (c .before .before .before .before .before .before .before .before .before .before .before .before .before .before .before .before .before .before .before .before .draft-on .last .1 .0) _ _ (not-false _ (c .before .before .before .before .before .before .before .before .before .before .if1 .left)) (omega arith) (c .before .before .before .before .before .before .before .put-front .ensures) refl (c .before .before .before .before .before .before .before .before .before .before .before .before .before .before .before .before .before .before .before .before .draft-on .ensures .1) (c .before .before .copy-lines .ensures)
+returns-3 c = plan-words (c .before .before .before .before .before .before .before .before .before .before .before .before .before .before .before .before .before .before .before .before .before .before .before .before .before .before .args .w .now) (c .before .before .before .before .before .before .before .before .before .before .before .before .before .before .before .before .before .before .before .before .before .before .before .before .before .before .pre .0) (c .before .before .before .before .before .before .before .before .before .before .before .before .before .before .before .before .before .before .before .before .before .before .before .before .before .before .pre .1 .0) (heldOffer (c .before .before .before .before .before .before .before .before .before .before .before .before .before .before .before .before .before .before .before .before .before .before .before .before .before .before .args .batch) (c .before .before .before .before .before .before .before .before .before .before .before .before .before .before .before .before .before .before .before .before .before .before .before .before .before .before .args .steps) (c .before .before .before .before .before .before .before .before .before .before .before .before .before .before .before .before .before .before .before .before .before .before .before .before .before .before .args .puts)) (c .before .before .before .before .before .before .before .before .before .before .before .before .before .before .before .before .before .before .before .before .before .before .before .before .before .before .pre .1 .5) _ _ (c .before .before .before .before .before .before .before .before .before .before .before .before .before .before .before .before .before .before .before .before .draft-on .ensures .0) (c .before .before .before .before .before .before .before .before .before .before .before .before .before .before .before .before .before .enum-told .given .1) _ (c .before .before .before .before .before .before .before .before .before .before .before .before .before .before .before .before .before .before .before .before .before .before .before .before .before .before .pre .1 .1) _ _ (c .before .before .before .before .before .before .before .before .before .before .before .before .before .before .before .live-count .ensures) (add-one _ ∙ ap suc (c .before .before .before .before .before .before .before .before .before .before .before .before .before .before .before .before .before .before .before .before .before .before .before .before .before .before .pre .1 .2)) .2 _ _ (c .before .before .before .before .before .before .before .before .before .before .before .before .before .try-grown .ensures .0) .1 (c .before .before .before .before .before .before .before .before .before .before .before .before .before .before .before .before .before .before .before .before .draft-on .last .1 .0) _ _ (not-false _ (c .before .before .before .before .before .before .before .before .before .before .if1 .left)) (omega arith) (c .before .before .before .before .before .before .before .put-front .ensures) refl (c .before .before .before .before .before .before .before .before .before .before .before .before .before .before .before .before .before .before .before .before .draft-on .ensures .1) (c .before .before .copy-lines .ensures)
 
 pub plan-job-spec : {M : Type 1} → statement M
 plan-job-spec =

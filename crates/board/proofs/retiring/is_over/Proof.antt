@@ -10,7 +10,7 @@ use Rattle.lines.specs.Held.{linesOf}
 use Rattle.stn.specs.Table.{implied}
 use Rattle.gaps.specs.Cells.{tableOf}
 use Rattle.settling.specs.Ending.{InReach}
-use Rattle.boardwords.specs.Words.{wordIn, linesFrom}
+use Rattle.boardwords.specs.Words.{wordIn, linesRead}
 use Rattle.boardwords.proofs.Lent.{cells-lent}
 use Rattle.board.proofs.retiring.is_over.Statement.{statement}
 use Rattle.board.proofs.retiring.is_over.Tie as tie
@@ -31,7 +31,7 @@ are-over-requires : tie.Need-are-over-requires
 are-over-requires c κs = (subst (λ (l : List ℕ). InReach l (wordIn (c .before .before .before .args .w .now) 2) 1 (c .before .before .before .args .m)) (sym (cells-lent (c .before .before .before .args .w .now) (c .before .before .before .pre .0))) (c .before .before .before .pre .1 .0), c .before .before .before .pre .1 .1, search needs, c .before .before .before .pre .1 .2)
 
 returns : tie.Need-returns
-returns c = c .are-over .ensures ∙ ap (λ (l : List ℕ). implied (tableOf l) (notAfter (1 + c .before .before .before .before .args .m - 1) (wordIn (c .before .before .before .before .args .w .now) 2) ∷ allEndBy (wordIn (c .before .before .before .before .args .w .now) 2) 1 (c .before .before .before .before .args .m) (linesOf (linesFrom (wordIn (c .before .before .before .before .args .w .now)))))) (cells-lent (c .before .before .before .before .args .w .now) (c .before .before .before .before .pre .0))
+returns c = c .are-over .ensures ∙ ap (λ (l : List ℕ). implied (tableOf l) (notAfter (1 + c .before .before .before .before .args .m - 1) (wordIn (c .before .before .before .before .args .w .now) 2) ∷ allEndBy (wordIn (c .before .before .before .before .args .w .now) 2) 1 (c .before .before .before .before .args .m) (linesOf (linesRead (wordIn (c .before .before .before .before .args .w .now)))))) (cells-lent (c .before .before .before .before .args .w .now) (c .before .before .before .before .pre .0))
 
 pub is-over-spec : {M : Type 1} → statement M
 is-over-spec =

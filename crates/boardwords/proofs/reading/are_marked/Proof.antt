@@ -5,12 +5,12 @@ use native.Mathlib.Omega.{arith}
 use borrow.Author.Needs.{needs}
 use Rattle.lists.specs.Loops.{allBelow}
 use Rattle.lists.proofs.AllBelow.{allBelow-none, allBelow-next}
-use Rattle.boardwords.specs.Words.{wordIn, marked, allMarked}
+use Rattle.boardwords.specs.Words.{wordIn, isMarked, allMarked}
 use Rattle.boardwords.proofs.reading.are_marked.Statement.{statement}
 use Rattle.boardwords.proofs.reading.are_marked.Tie as tie
 
 abbrev Inv-loop : tie.InvT-loop
-Inv-loop s count ok₀ k₀ ok k = (k ≤ 16) × (ok ≡ allBelow (λ i. marked count i (wordIn s (6 + 3 * i))) k)
+Inv-loop s count ok₀ k₀ ok k = (k ≤ 16) × (ok ≡ allBelow (λ i. isMarked count i (wordIn s (6 + 3 * i))) k)
 
 abbrev μ-loop : tie.MeasureT-loop
 μ-loop s count ok₀ k₀ ok k = 16 - k
@@ -43,7 +43,7 @@ loop-less : tie.Need-loop-less Inv-loop μ-loop
 loop-less c = omega arith
 
 loop-again : tie.Need-loop-again Inv-loop μ-loop
-loop-again c = let L = c .before .before .before .loop in (omega arith, allBelow-next _ (L .k) (L .ok) _ (L .inv .1) (c .is-marked .ensures ∙ ap (marked (c .before .before .before .before .word .result) (L .k)) (c .before .word2 .ensures)))
+loop-again c = let L = c .before .before .before .loop in (omega arith, allBelow-next _ (L .k) (L .ok) _ (L .inv .1) (c .is-marked .ensures ∙ ap (isMarked (c .before .before .before .before .word .result) (L .k)) (c .before .word2 .ensures)))
 
 returns : tie.Need-returns Inv-loop μ-loop
 unfolding allMarked

@@ -1,11 +1,11 @@
 -- `is_marked` meets its contract: the definition itself.
 use mathlib.Core.Path.{refl}
-use Rattle.boardwords.specs.Words.{marked}
+use Rattle.boardwords.specs.Words.{isMarked}
 use Rattle.boardwords.proofs.reading.is_marked.Statement.{statement}
 use Rattle.boardwords.proofs.reading.is_marked.Tie as tie
 
 returns : tie.Need-returns
-unfolding marked
+unfolding isMarked
 returns c = refl
 
 pub is-marked-spec : {M : Type 1} → statement M

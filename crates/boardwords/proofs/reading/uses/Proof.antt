@@ -6,13 +6,13 @@ use native.Mathlib.Omega.{arith}
 use borrow.Author.Needs.{needs}
 use Rattle.lines.specs.Padded.{padded}
 use Rattle.lists.specs.Loops.{build}
-use Rattle.boardwords.specs.Words.{wordIn, useAt, useFrom, zeros}
+use Rattle.boardwords.specs.Words.{wordIn, useAt, useRead, zeros}
 use Rattle.boardwords.proofs.Filled.{filled-none, filled-next, filled-done}
 use Rattle.boardwords.proofs.reading.uses.Statement.{statement}
 use Rattle.boardwords.proofs.reading.uses.Tie as tie
 
 abbrev Inv-loop : tie.InvT-loop
-Inv-loop s at next₀ k₀ next k = (k ≤ 32) × (next ≡ padded 32 (useFrom zeros 0) (build (useAt (wordIn s) at) k)) × (length next ≡ 32)
+Inv-loop s at next₀ k₀ next k = (k ≤ 32) × (next ≡ padded 32 (useRead zeros 0) (build (useAt (wordIn s) at) k)) × (length next ≡ 32)
 
 abbrev μ-loop : tie.MeasureT-loop
 μ-loop s at next₀ k₀ next k = 32 - k

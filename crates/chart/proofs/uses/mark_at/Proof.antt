@@ -8,14 +8,14 @@ use Rattle.plain.specs.Plain.{noUse}
 use Rattle.lines.specs.Held.{jobsOf, lineOf}
 use Rattle.lines.proofs.Lists.{held-next, held-over, length-mapped}
 use Rattle.gaps.specs.Cells.{tableOf}
-use Rattle.chart.specs.Chart.{markOf}
+use Rattle.chart.specs.Chart.{markAt}
 use Rattle.chart.proofs.Laws.{mark-next, mark-end}
 use Rattle.chart.proofs.uses.mark_at.Statement.{statement}
 use Rattle.chart.proofs.uses.mark_at.Tie as tie
 
 abbrev Inv-loop : tie.InvT-loop
 Inv-loop t jobs from to line mark₀ k₀ k-end mark k = (k ≤ k-end)
-    × (markOf (tableOf t) (jobsOf jobs) (drop k (lineOf line)) from to mark ≡ markOf (tableOf t) (jobsOf jobs) (lineOf line) from to 32)
+    × (markAt (tableOf t) (jobsOf jobs) (drop k (lineOf line)) from to mark ≡ markAt (tableOf t) (jobsOf jobs) (lineOf line) from to 32)
     × (length (line .uses) ≡ 32)
 
 abbrev μ-loop : tie.MeasureT-loop

@@ -5,11 +5,11 @@ use lib.ListN.{length, length-take}
 use native.Mathlib.Omega.{arith}
 use borrow.Author.Needs.{needs}
 use Rattle.plain.specs.Plain.{liveCount}
-use Rattle.lines.specs.Held.{stepsOf, stateOf, offerOf}
+use Rattle.lines.specs.Held.{stepsOf, stateOf, heldOffer}
 use Rattle.lines.proofs.Lists.{length-held, length-mapped}
 use Rattle.lines.proofs.DraftLaws.{within}
 use Rattle.rulings.specs.Answer.{plain}
-use Rattle.boardwords.specs.Words.{wordIn, linesFrom}
+use Rattle.boardwords.specs.Words.{wordIn, linesRead}
 use Rattle.drafts.proofs.DraftLaws.{drafted-full, start-room, drafted-stop, drafted-made, stops-as}
 use Rattle.drafts.proofs.drafting.draft.Statement.{statement}
 use Rattle.drafts.proofs.drafting.draft.Tie as tie
@@ -31,9 +31,9 @@ returns c =
     let entry = c .before .before .before .before .before in (
       λ H.
           let A = entry .args in
-          let v = linesFrom (wordIn (A .w .now)) in
+          let v = linesRead (wordIn (A .w .now)) in
           let s = stateOf (A .jobs) v (A .clock) H (A .lead) in
-          let o = offerOf (A .batch) (A .steps) (A .puts) in
+          let o = heldOffer (A .batch) (A .steps) (A .puts) in
           let len : length (A .steps .steps) ≡ 8 = search (needs, length-mapped, entry .good .1 .1 .1 .1 .1 .0) in
           let size = length-held (A .steps .count) (A .steps .steps) (omega (arith, entry .pre .1 .4)) in
           stops-as (c .refused .result) _ _ (plain 14) (c .refused .ensures)
@@ -54,7 +54,7 @@ begin-rules-requires : tie.Need-begin-rules-requires
 begin-rules-requires c κs =
     let entry = c .before .before .before .before .before in
     let A = entry .args in
-    let s = stateOf (A .jobs) (linesFrom (wordIn (A .w .now))) (A .clock) 0 (A .lead) in
+    let s = stateOf (A .jobs) (linesRead (wordIn (A .w .now))) (A .clock) 0 (A .lead) in
     let fits = within s (A .steps .count + 1) (sym (c .before .before .is-full .ensures s refl) ∙ c .before .if1 .left) in
     (omega (arith, c .points .ensures, fits .1), entry .pre .1 .4)
 
@@ -62,7 +62,7 @@ place-all-requires : tie.Need-place-all-requires
 place-all-requires c κs =
     let entry = c .before .before .before .before .before .before .before in
     let A = entry .args in
-    let s = stateOf (A .jobs) (linesFrom (wordIn (A .w .now))) (A .clock) 0 (A .lead) in
+    let s = stateOf (A .jobs) (linesRead (wordIn (A .w .now))) (A .clock) 0 (A .lead) in
     let fits = within s (A .steps .count + 1) (sym (c .before .before .before .before .is-full .ensures s refl) ∙ c .before .before .before .if1 .left) in
     let few : length (stepsOf (A .steps)) ≤ 8 = omega (arith, entry .pre .1 .4, length-take (A .steps .count) (A .steps .steps)) in (
       entry .pre .0,
@@ -84,9 +84,9 @@ returns-2 c =
     let entry = c .before .before .before .before .before .before .before .before .before .before .before .before .before .before in (
       λ H.
           let A = entry .args in
-          let v = linesFrom (wordIn (A .w .now)) in
+          let v = linesRead (wordIn (A .w .now)) in
           let s = stateOf (A .jobs) v (A .clock) H (A .lead) in
-          let o = offerOf (A .batch) (A .steps) (A .puts) in
+          let o = heldOffer (A .batch) (A .steps) (A .puts) in
           let len : length (A .steps .steps) ≡ 8 = search (needs, length-mapped, entry .good .1 .1 .1 .1 .1 .0) in
           let size = length-held (A .steps .count) (A .steps .steps) (omega (arith, entry .pre .1 .4)) in
           let few : length (stepsOf (A .steps)) ≤ 8 = omega (arith, entry .pre .1 .4, size) in
@@ -116,7 +116,7 @@ add-job-requires : tie.Need-add-job-requires
 add-job-requires c κs =
     let entry = c .before .before .before .before .before .before .before .before .before .before .before .before .before .before in
     let A = entry .args in
-    let s = stateOf (A .jobs) (linesFrom (wordIn (A .w .now))) (A .clock) 0 (A .lead) in
+    let s = stateOf (A .jobs) (linesRead (wordIn (A .w .now))) (A .clock) 0 (A .lead) in
     let fits = within s (A .steps .count + 1) (sym (c .before .before .before .before .before .before .before .before .before .before .before .is-full .ensures s refl) ∙ c .before .before .before .before .before .before .before .before .before .before .if1 .left) in
     let len : length (A .jobs .jobs) ≡ 16 = search (needs, length-mapped, entry .good .1 .0) in
     omega (arith, fits .0, length-held (A .jobs .count) (A .jobs .jobs) (omega (arith, entry .pre .1 .0 .count)))
@@ -130,9 +130,9 @@ returns-3 c =
     let entry = c .before .before .before .before .before .before .before .before .before .before .before .before .before .before .before in (
       λ H.
           let A = entry .args in
-          let v = linesFrom (wordIn (A .w .now)) in
+          let v = linesRead (wordIn (A .w .now)) in
           let s = stateOf (A .jobs) v (A .clock) H (A .lead) in
-          let o = offerOf (A .batch) (A .steps) (A .puts) in
+          let o = heldOffer (A .batch) (A .steps) (A .puts) in
           let len : length (A .steps .steps) ≡ 8 = search (needs, length-mapped, entry .good .1 .1 .1 .1 .1 .0) in
           let size = length-held (A .steps .count) (A .steps .steps) (omega (arith, entry .pre .1 .4)) in
           let few : length (stepsOf (A .steps)) ≤ 8 = omega (arith, entry .pre .1 .4, size) in

@@ -10,7 +10,7 @@ use Rattle.lines.specs.Held.{putsOf, noPut, answered}
 use Rattle.lines.specs.declared.rulelist.Rules.{Rules}
 use Rattle.lines.proofs.Lists.{held-next, held-over, length-mapped}
 use Rattle.lines.proofs.RuleLaws.{Room-less}
-use Rattle.boardwords.specs.Words.{wordIn, linesFrom}
+use Rattle.boardwords.specs.Words.{wordIn, linesRead}
 use Rattle.drafts.specs.Turned.{Reached}
 use Rattle.drafts.proofs.PlaceLaws.{Going, goes-on, stops-here, all-placed}
 use Rattle.drafts.proofs.placing.place_all.Statement.{statement}
@@ -18,7 +18,7 @@ use Rattle.drafts.proofs.placing.place_all.Tie as tie
 
 -- how placing stands with the lines of these words and these rules
 abbrev going : List ℕ → Rules → Reached
-going w rs = record { ruling = Accepted; lines = linesFrom (wordIn w); rules = rs }
+going w rs = record { ruling = Accepted; lines = linesRead (wordIn w); rules = rs }
 
 abbrev Inv-loop : tie.InvT-loop
 Inv-loop w₀ first puts made₀ k₀ k-end w made k = (k ≤ k-end)

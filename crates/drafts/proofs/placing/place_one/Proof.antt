@@ -5,7 +5,7 @@ use native.Mathlib.Omega.{arith}
 use borrow.Author.Needs.{needs}
 use Rattle.rulings.specs.Answer.{cause}
 use Rattle.lines.specs.Held.{lineOf, linesOf, noLine}
-use Rattle.boardwords.specs.Words.{wordIn, linesFrom}
+use Rattle.boardwords.specs.Words.{wordIn, linesRead}
 use Rattle.drafts.proofs.PlaceLaws.{of-at, placed-far, placed-full, used-short, turn-stops, words-size, words-few, words-tidy, words-short, words-turn}
 use Rattle.drafts.proofs.placing.place_one.Statement.{statement}
 use Rattle.drafts.proofs.placing.place_one.Tie as tie
@@ -41,7 +41,7 @@ returns c =
     let A = entry .args in
     let r = A .put .resource in
     let ready = entry .pre .1 .2 in
-    let v = linesFrom (wordIn (A .w .now)) in
+    let v = linesRead (wordIn (A .w .now)) in
     let size = words-size (wordIn (entry .args .w .now)) ready r (entry .pre .1 .1 .resource) in
     turn-stops (A .first) (A .i) (A .put) v (c .stopped .result) (cause 15 (A .i)) ready (c .stopped .ensures)
     (λ rs. placed-far (A .first) (A .i) (A .put) [] (linesOf v) rs (lineOf (getD v r noLine)) (of-at v r) (omega (arith, size)))
@@ -55,7 +55,7 @@ returns-2 c =
     let A = entry .args in
     let r = A .put .resource in
     let ready = entry .pre .1 .2 in
-    let v = linesFrom (wordIn (A .w .now)) in
+    let v = linesRead (wordIn (A .w .now)) in
     let size = words-size (wordIn (entry .args .w .now)) ready r (entry .pre .1 .1 .resource) in
     turn-stops (A .first) (A .i) (A .put) v (c .stopped2 .result) (cause 16 (A .i)) ready (c .stopped2 .ensures)
     (λ rs. placed-full (A .first) (A .i) (A .put) [] (linesOf v) rs (lineOf (getD v r noLine)) (of-at v r) (omega (arith, size)) (omega (arith, size)))

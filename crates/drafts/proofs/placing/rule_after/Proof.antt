@@ -8,7 +8,7 @@ use Rattle.plain.specs.Plain.{noUse, inOrder}
 use Rattle.plain.specs.declared.Rule.{Rule}
 use Rattle.lines.specs.Held.{lineOf, maybeFrom}
 use Rattle.lines.proofs.RuleLaws.{after-none, after-at}
-use Rattle.boardwords.specs.Words.{wordIn, lineFrom}
+use Rattle.boardwords.specs.Words.{wordIn, lineRead}
 use Rattle.boardwords.proofs.Boards.{held-size, held-use}
 use Rattle.drafts.proofs.placing.rule_after.Statement.{statement}
 use Rattle.drafts.proofs.placing.rule_after.Tie as tie
@@ -31,7 +31,7 @@ returns c =
     let A = entry .args in
     let w = wordIn (A .w .now) in
     c .no-rule .ensures
-    ∙ ap maybeFrom (after-none (lineOf (lineFrom w (A .at))) (A .place) (A .u) (omega (arith, held-size w (A .at) (entry .pre .1), c .before .if1 .taken)))
+    ∙ ap maybeFrom (after-none (lineOf (lineRead w (A .at))) (A .place) (A .u) (omega (arith, held-size w (A .at) (entry .pre .1), c .before .if1 .taken)))
 
 add-read-use : tie.Need-add-read-use
 add-read-use c = search needs
@@ -56,7 +56,7 @@ returns-2 c =
     let entry = c .before .before .before .before .before .before in
     let A = entry .args in
     let w = wordIn (A .w .now) in
-    let l = lineOf (lineFrom w (A .at)) in
+    let l = lineOf (lineRead w (A .at)) in
     let is : c .before .before .read-use .result ≡ getD l (A .place) noUse =
     c .before .before .read-use .ensures ∙ sym (held-use w (A .at) (A .place) (omega arith) (omega arith)) in
     c .one-rule .ensures

@@ -11,7 +11,7 @@ use Rattle.plain.specs.declared.Rule.{Rule}
 use Rattle.lines.specs.Held.{lineOf, maybeFrom}
 use Rattle.lines.specs.Asked.{Short}
 use Rattle.lines.proofs.RuleLaws.{before-none, before-at}
-use Rattle.boardwords.specs.Words.{wordIn, lineFrom}
+use Rattle.boardwords.specs.Words.{wordIn, lineRead}
 use Rattle.boardwords.proofs.Boards.{held-use}
 use Rattle.drafts.proofs.placing.rule_before.Statement.{statement}
 use Rattle.drafts.proofs.placing.rule_before.Tie as tie
@@ -21,7 +21,7 @@ no-rule-requires c κs = search needs
 
 returns : tie.Need-returns
 returns c = let A = c .before .before .before .args in
-    c .no-rule .ensures ∙ ap maybeFrom (before-none (lineOf (lineFrom (wordIn (A .w .now)) (A .at))) (A .place) (A .u) (c .before .if1 .taken))
+    c .no-rule .ensures ∙ ap maybeFrom (before-none (lineOf (lineRead (wordIn (A .w .now)) (A .at))) (A .place) (A .u) (c .before .if1 .taken))
 
 add-read-use : tie.Need-add-read-use
 add-read-use c = search needs
@@ -43,7 +43,7 @@ in-order-requires c κs =
     let entry = c .before .before .before in
     let A = entry .args in
     let j = A .place - 1 in
-    let is : c .read-use .result ≡ getD (lineOf (lineFrom (wordIn (A .w .now)) (A .at))) j noUse =
+    let is : c .read-use .result ≡ getD (lineOf (lineRead (wordIn (A .w .now)) (A .at))) j noUse =
     c .read-use .ensures ∙ sym (held-use (wordIn (A .w .now)) (A .at) j (omega arith) (omega arith)) in
     subst Short (sym is) (entry .pre .1 j)
 
@@ -52,7 +52,7 @@ one-rule-requires c κs = search needs
 
 returns-2 : tie.Need-returns-2
 returns-2 c = let A = c .before .before .before .before .before .args in
-    let l = lineOf (lineFrom (wordIn (A .w .now)) (A .at)) in
+    let l = lineOf (lineRead (wordIn (A .w .now)) (A .at)) in
     let j = A .place - 1 in
     let is : c .before .before .read-use .result ≡ getD l j noUse =
     c .before .before .read-use .ensures ∙ sym (held-use (wordIn (A .w .now)) (A .at) j (omega arith) (omega arith)) in

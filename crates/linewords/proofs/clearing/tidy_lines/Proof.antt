@@ -5,7 +5,7 @@ use native.Mathlib.Omega.{arith}
 use lib.ListN.{length}
 use Rattle.lines.proofs.LineLaws.{tidied, tidied-all}
 use Rattle.boardwords.proofs.Put.{put-none}
-use Rattle.boardwords.specs.Words.{wordIn, linesFrom}
+use Rattle.boardwords.specs.Words.{wordIn, linesRead}
 use Rattle.linewords.proofs.Lines.{turned, lines-turn, lines-few, lines-done}
 use Rattle.linewords.proofs.clearing.tidy_lines.Statement.{statement}
 use Rattle.linewords.proofs.clearing.tidy_lines.Tie as tie
@@ -44,7 +44,7 @@ same-length c = omega arith
 returns : tie.Need-returns Inv-loop μ-loop
 returns c = let L = c .before .loop in
     let w = c .before .before .before .args .w .now in
-    lines-done tidied w (L .w) (L .k) _ (L .inv .1) (omega arith) (tidied-all (linesFrom (wordIn w)))
+    lines-done tidied w (L .w) (L .k) _ (L .inv .1) (omega arith) (tidied-all (linesRead (wordIn w)))
 
 pub tidy-lines-spec : {M : Type 1} → statement M
 tidy-lines-spec =

@@ -5,7 +5,7 @@ use native.Mathlib.Omega.{arith}
 use lib.ListN.{length}
 use Rattle.lines.proofs.LeavingLaws.{staysOf, stayed-all}
 use Rattle.boardwords.proofs.Put.{put-none}
-use Rattle.boardwords.specs.Words.{wordIn, linesFrom}
+use Rattle.boardwords.specs.Words.{wordIn, linesRead}
 use Rattle.linewords.proofs.Lines.{turned, lines-turn, lines-few, lines-done}
 use Rattle.linewords.proofs.thinning.stay_lines.Statement.{statement}
 use Rattle.linewords.proofs.thinning.stay_lines.Tie as tie
@@ -47,7 +47,7 @@ same-length c = omega arith
 returns : tie.Need-returns Inv-loop μ-loop
 returns c = let L = c .before .loop in
     let A = c .before .before .before .args in
-    lines-done (staysOf (A .f) (A .m)) (A .w .now) (L .w) (L .k) _ (L .inv .1) (omega arith) (stayed-all (A .f) (A .m) (linesFrom (wordIn (A .w .now))))
+    lines-done (staysOf (A .f) (A .m)) (A .w .now) (L .w) (L .k) _ (L .inv .1) (omega arith) (stayed-all (A .f) (A .m) (linesRead (wordIn (A .w .now))))
 
 pub stay-lines-spec : {M : Type 1} → statement M
 stay-lines-spec =

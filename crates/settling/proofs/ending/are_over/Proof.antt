@@ -2,7 +2,7 @@
 use borrow.Author.Needs.{needs}
 use Rattle.plain.specs.Plain.{allEndBy}
 use Rattle.lines.specs.Held.{linesOf}
-use Rattle.boardwords.specs.Words.{wordIn, linesFrom}
+use Rattle.boardwords.specs.Words.{wordIn, linesRead}
 use Rattle.settling.proofs.Ended.{last-late, last-over}
 use Rattle.settling.proofs.ending.are_over.Statement.{statement}
 use Rattle.settling.proofs.ending.are_over.Tie as tie
@@ -33,7 +33,7 @@ lines-end-requires c κs = search needs
 
 returns-2 : tie.Need-returns-2
 returns-2 c = let A = c .before .before .before .before .before .args in
-    last-over (A .t .now) (A .clock) _ (allEndBy (A .clock) (A .f) (A .m) (linesOf (linesFrom (wordIn (A .w .now))))) (c .lines-end .result) (c .lines-end .ensures) (c .before .if1 .left)
+    last-over (A .t .now) (A .clock) _ (allEndBy (A .clock) (A .f) (A .m) (linesOf (linesRead (wordIn (A .w .now))))) (c .lines-end .result) (c .lines-end .ensures) (c .before .if1 .left)
 
 pub are-over-spec : {M : Type 1} → statement M
 are-over-spec =

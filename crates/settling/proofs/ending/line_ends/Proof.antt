@@ -7,13 +7,13 @@ use lib.ListN.{drop}
 use Rattle.lines.specs.Held.{lineOf}
 use Rattle.lines.specs.Asked.{Short}
 use Rattle.lines.proofs.Lists.{held-over}
-use Rattle.boardwords.specs.Words.{wordIn, usesFrom, lineFrom}
+use Rattle.boardwords.specs.Words.{wordIn, usesRead, lineRead}
 use Rattle.settling.proofs.Ended.{usesEnd, uses-next, uses-end, read-at, read-next}
 use Rattle.settling.proofs.ending.line_ends.Statement.{statement}
 use Rattle.settling.proofs.ending.line_ends.Tie as tie
 
 abbrev Inv-loop : tie.InvT-loop
-Inv-loop t clock f m w at count ok₀ k₀ ok k = (k ≤ count) × ((ok && usesEnd t clock f m (drop k (lineOf (lineFrom (wordIn w) at)))) ≡ usesEnd t clock f m (lineOf (lineFrom (wordIn w) at)))
+Inv-loop t clock f m w at count ok₀ k₀ ok k = (k ≤ count) × ((ok && usesEnd t clock f m (drop k (lineOf (lineRead (wordIn w) at)))) ≡ usesEnd t clock f m (lineOf (lineRead (wordIn w) at)))
 
 abbrev μ-loop : tie.MeasureT-loop
 μ-loop t clock f m w at count ok₀ k₀ ok k = count - k
@@ -59,7 +59,7 @@ loop-again c = let A = c .before .before .before .before .before .before .before
     let L = c .before .before .before .loop in
     let w = wordIn (A .w .now) in (
       omega arith,
-      uses-next (A .t .now) (A .clock) (A .f) (A .m) (lineOf (lineFrom w (A .at))) (L .k) (L .ok) (L .inv .1) (c .before .read-use .result) _
+      uses-next (A .t .now) (A .clock) (A .f) (A .m) (lineOf (lineRead w (A .at))) (L .k) (L .ok) (L .inv .1) (c .before .read-use .result) _
           (read-next w (A .at) (L .k) (omega arith) (omega arith) (c .before .read-use .result) (c .before .read-use .ensures)) (c .use-ends .ensures),
     )
 
@@ -67,8 +67,8 @@ returns : tie.Need-returns Inv-loop μ-loop
 returns c = let A = c .before .before .before .before .before .args in
     let L = c .before .loop in
     let w = wordIn (A .w .now) in
-    uses-end (A .t .now) (A .clock) (A .f) (A .m) (lineOf (lineFrom w (A .at))) (L .k) (L .ok) (L .inv .1)
-    (held-over (w (A .at)) (usesFrom w (A .at + 1)) (L .k) (omega arith))
+    uses-end (A .t .now) (A .clock) (A .f) (A .m) (lineOf (lineRead w (A .at))) (L .k) (L .ok) (L .inv .1)
+    (held-over (w (A .at)) (usesRead w (A .at + 1)) (L .k) (omega arith))
 
 pub line-ends-spec : {M : Type 1} → statement M
 line-ends-spec =

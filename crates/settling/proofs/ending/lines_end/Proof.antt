@@ -4,13 +4,13 @@ use mathlib.Core.Path.{_≡_, refl}
 use Prim.Native.Nat.{_≤_, _-_}
 use native.Mathlib.Omega.{arith}
 use lib.ListN.{drop}
-use Rattle.boardwords.specs.Words.{wordIn, linesFrom}
+use Rattle.boardwords.specs.Words.{wordIn, linesRead}
 use Rattle.settling.proofs.Ended.{linesEnd, lined-read, read-line-next, read-line-end}
 use Rattle.settling.proofs.ending.lines_end.Statement.{statement}
 use Rattle.settling.proofs.ending.lines_end.Tie as tie
 
 abbrev Inv-loop : tie.InvT-loop
-Inv-loop t clock f m w ok₀ k₀ ok k = (k ≤ 16) × ((ok && linesEnd t clock f m (drop k (linesFrom (wordIn w)))) ≡ linesEnd t clock f m (linesFrom (wordIn w)))
+Inv-loop t clock f m w ok₀ k₀ ok k = (k ≤ 16) × ((ok && linesEnd t clock f m (drop k (linesRead (wordIn w)))) ≡ linesEnd t clock f m (linesRead (wordIn w)))
 
 abbrev μ-loop : tie.MeasureT-loop
 μ-loop t clock f m w ok₀ k₀ ok k = 16 - k

@@ -5,7 +5,7 @@ use mathlib.Core.Path.{_≡_, refl}
 use native.Mathlib.Omega.{arith}
 use lib.ListN.{drop, drop-of-length-le, length}
 use borrow.Author.Needs.{needs}
-use Rattle.boardwords.specs.Words.{wordIn, lineAt, linesFrom}
+use Rattle.boardwords.specs.Words.{wordIn, lineAt, linesRead}
 use Rattle.lists.proofs.Build.{build-length}
 use Rattle.sound.specs.Sound.{allOf, sizedLine}
 use Rattle.sound.proofs.Flags.{all-next, all-end}
@@ -14,7 +14,7 @@ use Rattle.sound.proofs.lining.are_lines_sized.Statement.{statement}
 use Rattle.sound.proofs.lining.are_lines_sized.Tie as tie
 
 abbrev Inv-loop : tie.InvT-loop
-Inv-loop w n ok₀ k₀ ok k = (k ≤ 16) × ((ok && allOf (sizedLine n) (drop k (linesFrom (wordIn w)))) ≡ allOf (sizedLine n) (linesFrom (wordIn w)))
+Inv-loop w n ok₀ k₀ ok k = (k ≤ 16) × ((ok && allOf (sizedLine n) (drop k (linesRead (wordIn w)))) ≡ allOf (sizedLine n) (linesRead (wordIn w)))
 
 abbrev μ-loop : tie.MeasureT-loop
 μ-loop w n ok₀ k₀ ok k = 16 - k
@@ -41,13 +41,13 @@ loop-again : tie.Need-loop-again Inv-loop μ-loop
 loop-again c = let A = c .before .before .before .before .args in
     let L = c .before .before .loop in (
       omega arith,
-      all-next (sizedLine (A .n)) (linesFrom (wordIn (A .w .now))) (L .k) (L .ok) _ _ (L .inv .1) (lines-next (wordIn (A .w .now)) (L .k) (c .before .loop-test .taken)) (c .is-line-sized .ensures),
+      all-next (sizedLine (A .n)) (linesRead (wordIn (A .w .now))) (L .k) (L .ok) _ _ (L .inv .1) (lines-next (wordIn (A .w .now)) (L .k) (c .before .loop-test .taken)) (c .is-line-sized .ensures),
     )
 
 returns : tie.Need-returns Inv-loop μ-loop
 returns c = let A = c .before .before .before .args in
     let L = c .before .loop in
-    let ls = linesFrom (wordIn (A .w .now)) in
+    let ls = linesRead (wordIn (A .w .now)) in
     let over : length ls ≤ L .k = omega (arith, build-length (lineAt (wordIn (A .w .now))) 16) in
     all-end (sizedLine (A .n)) ls (L .k) (L .ok) (L .inv .1) (drop-of-length-le ls over)
 
