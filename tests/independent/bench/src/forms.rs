@@ -46,7 +46,7 @@ impl<C: Calls> Form for C {
             Call::Report => {
                 let mut rows = [Row::default(); MOST_POINTS];
                 let reported = self.report(&mut rows);
-                black_box(rows);
+                black_box(&rows);
                 reported.map(|_| ())
             }
         };

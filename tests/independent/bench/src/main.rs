@@ -58,29 +58,30 @@ fn check_rows() -> Vec<TableRow> {
     rows.collect()
 }
 
-fn board_rows(work: &Work) -> Vec<TableRow> {
+/// Every call on boards of every size, timed.
+fn board_cases(work: &Work) -> Vec<Case> {
     let of_all_sizes = |name| JOBS.map(|jobs| case(work, name, jobs));
     let mut cases: Vec<Case> = CALLS.into_iter().flat_map(of_all_sizes).collect();
     timing::run(&mut cases, ROUNDS);
-    let rows = cases.iter_mut().map(|case| {
-        let [ours, incremental, windows, scratch] = case.microseconds();
-        let ending = if case.jobs == 1 { "" } else { "s" };
-        TableRow {
-            call: case.name,
-            size: format!("{} job{ending}", case.jobs),
-            ours,
-            incremental,
-            others: Some([windows, scratch]),
-        }
-    });
-    rows.collect()
+    cases
+}
+
+fn board_row(case: &Case, [ours, incremental, windows, scratch]: [f64; 4]) -> TableRow {
+    let ending = if case.jobs == 1 { "" } else { "s" };
+    TableRow {
+        call: case.name,
+        size: format!("{} job{ending}", case.jobs),
+        ours,
+        incremental,
+        others: Some([windows, scratch]),
+    }
 }
 
 fn chart_rows(work: &Work) -> Vec<(usize, f64, f64)> {
     let mut cases = CHART_JOBS.map(|jobs| case(work, "plan", jobs + 1));
     timing::run(&mut cases, CHART_ROUNDS);
-    let rows = CHART_JOBS.iter().zip(&mut cases).map(|(jobs, case)| {
-        let [ours, _, _, scratch] = case.microseconds();
+    let rows = CHART_JOBS.iter().zip(&cases).map(|(jobs, case)| {
+        let [ours, _, _, scratch] = case.later_call();
         (jobs * JOB_POINTS, ours, scratch)
     });
     rows.collect()
@@ -89,8 +90,15 @@ fn chart_rows(work: &Work) -> Vec<(usize, f64, f64)> {
 fn main() {
     let work = Work::new();
     let mut rows = check_rows();
-    rows.extend(board_rows(&work));
+    let cases = board_cases(&work);
+    rows.extend(cases.iter().map(|case| board_row(case, case.later_call())));
     show::table(&rows);
+    println!();
+    let small = cases.iter().filter(|case| case.jobs == 1);
+    let firsts: Vec<TableRow> = small
+        .map(|case| board_row(case, case.first_call()))
+        .collect();
+    show::first_calls(&firsts);
     println!();
     show::chart(&chart_rows(&work));
 }

@@ -49,7 +49,7 @@ impl Ours {
         let (board, list) = (self.0.as_ptr(), rows.as_mut_ptr());
         // SAFETY: each pointer is lent with the length of its live array; the board is only read.
         let number = unsafe { sf_report(board, BOARD_WORDS, list, rows.len()) };
-        black_box(rows);
+        black_box(&rows);
         number
     }
 }

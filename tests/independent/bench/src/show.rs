@@ -22,16 +22,15 @@ impl TableRow {
         self.ours / self.incremental.min(scratch)
     }
 
-    fn print(&self) {
+    fn text(&self) -> String {
         let [ours, incremental] = [self.ours, self.incremental].map(three_digits);
         let others = self.others.map(|times| times.map(three_digits));
         let [windows, scratch] = others.unwrap_or_default();
         let ratio = self.ratio();
-        let mark = if ratio > GOAL { " <" } else { "" };
-        println!(
-            "{:10}  {:18} {ours:>9} {incremental:>12} {windows:>9} {scratch:>9} {ratio:>8.2}{mark}",
+        format!(
+            "{:10}  {:18} {ours:>9} {incremental:>12} {windows:>9} {scratch:>9} {ratio:>8.2}",
             self.call, self.size
-        );
+        )
     }
 }
 
@@ -45,18 +44,27 @@ fn three_digits(time: f64) -> String {
 }
 
 pub fn table(rows: &[TableRow]) {
-    println!("microseconds a call                  ours  incremental   windows   scratch    ratio");
+    println!("microseconds a call, in a row        ours  incremental   windows   scratch    ratio");
     let mut call = "";
     for row in rows {
         if row.call != call {
             println!();
         }
         call = row.call;
-        row.print();
+        let mark = if row.ratio() > GOAL { " <" } else { "" };
+        println!("{}{mark}", row.text());
     }
     println!(
         "\nratio: ours to the faster of incremental and scratch; < where it is above {GOAL:.2}"
     );
+}
+
+/// The same for the first call of a turn.
+pub fn first_calls(rows: &[TableRow]) {
+    println!(
+        "the first call after other work      ours  incremental   windows   scratch    ratio\n"
+    );
+    rows.iter().for_each(|row| println!("{}", row.text()));
 }
 
 /// Live points before the call, microseconds of ours and of scratch.

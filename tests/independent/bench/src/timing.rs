@@ -1,5 +1,6 @@
 //! How a call is timed on all forms: in turns, each call on a board of its own that was prepared
-//! outside the timed part. A form's time is the median of its turns.
+//! outside the timed part. The first call of a turn, which comes after other work, is timed apart from
+//! those behind it. A form's time is the median of its turns.
 
 use crate::forms::{Call, Form, Incremental};
 use crate::ours::Ours;
@@ -13,11 +14,20 @@ use std::time::Instant;
 /// the machine seldom falls into a turn.
 const CALLS_A_TURN: usize = 4;
 
-/// One form's board before the call, room for its copies, and the nanoseconds a call took in each turn.
+/// The nanoseconds of a turn.
+#[derive(Clone, Copy)]
+struct Turn {
+    /// Of its first call, whose code and stack other work has pushed out of the nearer caches.
+    first: f64,
+    /// Of a call behind it, on average.
+    later: f64,
+}
+
+/// One form's board before the call, room for its copies, and its turns.
 struct Column<F> {
     before: F,
     boards: Vec<F>,
-    turns: Vec<f64>,
+    turns: Vec<Turn>,
 }
 
 impl<F: Form> Column<F> {
@@ -39,16 +49,23 @@ impl<F: Form> Column<F> {
         for board in &mut self.boards {
             board.clone_from(&self.before);
         }
+        let make = |board| {
+            black_box(black_box::<&mut F>(board).make(black_box(call)));
+        };
+        let nanoseconds = |start: Instant| start.elapsed().as_nanos() as f64;
+        let mut boards = self.boards.iter_mut();
         let start = Instant::now();
-        for board in &mut self.boards {
-            black_box(black_box(board).make(black_box(call)));
-        }
-        let nanoseconds = start.elapsed().as_nanos() as f64;
-        self.turns.push(nanoseconds / CALLS_A_TURN as f64);
+        boards.by_ref().take(1).for_each(make);
+        let first = nanoseconds(start);
+        boards.for_each(make);
+        let later = (nanoseconds(start) - first) / (CALLS_A_TURN as f64 - 1.0);
+        self.turns.push(Turn { first, later });
     }
 
-    fn microseconds(&mut self) -> f64 {
-        median(&mut self.turns) / 1_000.0
+    /// The median of a number that each turn has.
+    fn microseconds(&self, number: impl Fn(Turn) -> f64) -> f64 {
+        let mut times: Vec<f64> = self.turns.iter().copied().map(number).collect();
+        median(&mut times) / 1_000.0
     }
 }
 
@@ -98,13 +115,22 @@ impl Case {
         self.scratch.take_turn(&self.call);
     }
 
-    /// Microseconds of a call: ours, incremental, windows, scratch.
-    pub fn microseconds(&mut self) -> [f64; 4] {
+    /// Microseconds of a call behind others of its kind: ours, incremental, windows, scratch.
+    pub fn later_call(&self) -> [f64; 4] {
+        self.of_forms(|turn| turn.later)
+    }
+
+    /// Microseconds of the first call of a turn.
+    pub fn first_call(&self) -> [f64; 4] {
+        self.of_forms(|turn| turn.first)
+    }
+
+    fn of_forms(&self, number: impl Fn(Turn) -> f64 + Copy) -> [f64; 4] {
         [
-            self.ours.microseconds(),
-            self.incremental.microseconds(),
-            self.windows.microseconds(),
-            self.scratch.microseconds(),
+            self.ours.microseconds(number),
+            self.incremental.microseconds(number),
+            self.windows.microseconds(number),
+            self.scratch.microseconds(number),
         ]
     }
 }
