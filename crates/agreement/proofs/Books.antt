@@ -17,7 +17,6 @@ use Rattle.plain.specs.Rules.{Times, Kept, AllKept}
 use Rattle.plain.proofs.Rules.{kept-append}
 use Rattle.stn.specs.Table.{Fits}
 use Rattle.gaps.specs.Cells.{cell, tableOf}
-use Rattle.gaps.proofs.GapTable.{gapTable-closed}
 use Rattle.rulebook.specs.Book.{Point, completed, Possible}
 use Rattle.boardwords.specs.declared.Board.{Board}
 use Rattle.lists.specs.All.{All}
@@ -91,7 +90,7 @@ unfolding liveCount Possible
 parts-holds {s} {l} p =
     let few = p .limits .horizon .1 in
     record {
-      closed = gapTable-closed (p .table);
+      closed = p .table .closed;
       same = λ u. (
         λ f. (f .0, ((λ k. pos 0), cells-fit l (liveCount s) u (λ k. pos 0) .0 (f .1))),
         λ q. (q .0, cells-fit l (liveCount s) u (q .1 .0) .1 (q .1 .1)),

@@ -107,7 +107,7 @@ module _ (s : Settings) (good : badSettings s ≡ false) where
       live : (i j : ℕ) → i < n → j < n → cell (freshBoard s .gaps) i j ≡ bias
       live i j hi hj = unfold freshBoard fresh liveCount total in
           let e : j ≡ i = omega arith in
-          rw e (fresh-table (s .horizon) .diagonal i hi)
+          rw e (fresh-table (s .horizon) .closed .diagonal i hi)
 
   pub fresh-beside : Sim (abstractOf (started s)) (opened s)
   unfolding freshBoard fresh

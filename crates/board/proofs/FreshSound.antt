@@ -1,4 +1,5 @@
 -- A fresh board is sound where its settings are in range, and the board of a refused fresh is not.
+--   zeros-at         a list of zeros
 --   zero-unsound     the zero board fails the test: its horizon is 0
 --   fresh-origin, fresh-elsewhere, fresh-live   the cells of a fresh table: a gap of 0 at the origin, 0 everywhere else
 --   fresh-table      it is a good table of one point;  fresh-sound: the fresh board is sound
@@ -6,7 +7,6 @@ use Prim.Native.Nat.{ℕ, zero, suc, _+_, _*_, _≤_, _<_}
 use mathlib.Core.Path.{_≡_, refl, _∙_, ap}
 use mathlib.Core.Logic.{_⊎_, inl, inr}
 use mathlib.Core.Bool.{false}
-use mathlib.Core.List.{[], _∷_}
 use native.Mathlib.Omega.{arith}
 use lib.ListN.{getD, set, replicate}
 use borrow.Author.Tests.{not-false}
@@ -28,7 +28,7 @@ zero-unsound = refl
 
 -- ---- the table of the origin alone
 
-zeros-at : (n k : ℕ) → _≡_ {A = ℕ} (getD (replicate n 0) k 0) 0
+pub zeros-at : (n k : ℕ) → _≡_ {A = ℕ} (getD (replicate n 0) k 0) 0
 zeros-at zero k = refl
 zeros-at (suc n) zero = refl
 zeros-at (suc n) (suc k) = zeros-at n k
@@ -56,11 +56,14 @@ fresh-live i j hi hj = let first : i * 65 + j ≡ 0 = omega arith in ap (λ (k :
 pub fresh-table : (H : ℕ) → GapTable freshCells 1 H
 fresh-table H =
     record {
-      bounded = λ i j hi hj. omega (arith, fresh-live i j hi hj);
+      closed =
+          record {
+            diagonal = λ i hi. fresh-live i i hi hi;
+            triangle = λ i j k hi hj hk. omega (arith, fresh-live i k hi hk, fresh-live i j hi hj, fresh-live j k hj hk);
+            bounded = λ i j hi hj. omega (arith, fresh-live i j hi hj);
+            floor = λ i hi. omega (arith, fresh-live i 0 hi (omega arith));
+          };
       rest = λ i j hi hj past. fresh-elsewhere (i * 65 + j) (beyond i j past);
-      diagonal = λ i hi. fresh-live i i hi hi;
-      triangle = λ i j k hi hj hk. omega (arith, fresh-live i k hi hk, fresh-live i j hi hj, fresh-live j k hj hk);
-      floor = λ i hi. omega (arith, fresh-live i 0 hi (omega arith));
       roof = λ i hi. omega (arith, fresh-live 0 i (omega arith) hi);
     }
   where

@@ -5,7 +5,7 @@
 --   lines-kept          a changed table, another clock and other jobs leave the lines as they were
 --   assembled           with lines written too, the words are those of the board so made
 --   answered, accepted-words, unanswered   the words after an accepted call, and after a refused one
-use Prim.Native.Nat.{ℕ, zero, suc, _+_, _*_, _<_, _≤_}
+use Prim.Native.Nat.{ℕ, suc, _<_, _≤_}
 use mathlib.Core.Path.{_≡_, refl, sym, _∙_, ap, ap₂, subst}
 use mathlib.Core.Bool.{Bool, true, false, cond, false≢true}
 use mathlib.Core.List.{List, [], _∷_}

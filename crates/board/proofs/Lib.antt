@@ -1,11 +1,4 @@
 pub mod Started
 pub mod FreshSound
 pub mod OnSound
-pub mod Clocked
-pub mod Sent
-pub mod Placed
-pub mod Drafts
-pub mod Planned
-pub mod Retired
 pub mod InWords
-pub mod PlanWords

@@ -2,6 +2,7 @@
 --   rules-back    the rules held in the array, read back
 --   sized         the jobs are as many as the walks of them ask
 --   lines-small   no line holds more than 32;  lined: and each use is short
+--   Fits n u      a use of one of the first n points, its offset and length in range
 --   fitting       the lines as the plain machine has them: each use fits the live points
 --   closed        the table is closed
 use Prim.Native.Nat.{ℕ, zero, suc, _≤_, _<_}
@@ -23,12 +24,10 @@ use Rattle.lines.proofs.Lists.{map-at}
 use Rattle.lines.proofs.Padded.{take-padded}
 use Rattle.stn.specs.Table.{Closed}
 use Rattle.gaps.specs.Cells.{tableOf}
-use Rattle.gaps.proofs.GapTable.{gapTable-closed}
 use Rattle.boardwords.specs.declared.Board.{Board}
 use Rattle.sound.specs.Sound.{pointsOf, SizedUse, Sound}
 use Rattle.lists.specs.All.{All}
 use Rattle.lists.proofs.All.{all-at, all-from, all-map}
-use Rattle.board.proofs.Drafts.{Fits}
 
 pub rules-back : (l : List Rule) → length l ≤ 82 → rulesOf (rulesFrom l) ≡ l
 rules-back l h = take-padded 82 noRule l h
@@ -37,6 +36,11 @@ past-end : (l : List Line) (k : ℕ) → length l ≤ k → getD l k noLine ≡ 
 past-end [] k h = refl
 past-end (x ∷ l) zero h = absurd (omega arith)
 past-end (x ∷ l) (suc k) h = past-end l k (omega arith)
+
+pub record Fits (n : ℕ) (u : Use) : Type 0 where
+  pub point : u .point < n
+  pub offset : u .offset ≤ 1000000
+  pub length : u .length ≤ 1000000
 
 module _ (b : Board) (s : Sound b) where
   pub sized : Sized (b .jobs)
@@ -50,7 +54,7 @@ module _ (b : Board) (s : Sound b) where
       go false q = let far = ltb-false k 16 q in rw (past-end (b .lines) k (omega (arith, e, far))) (omega arith)
 
   pub closed : Closed (suc (total (jobsOf (b .jobs)))) (tableOf (b .gaps))
-  closed = gapTable-closed (s .table)
+  closed = s .table .closed
 
   -- the line of a resource, as the plain machine has it
   line-is : length (b .lines) ≡ 16 → (k : ℕ) → k < 16 → getD (linesOf (b .lines)) k [] ≡ lineOf (getD (b .lines) k noLine)

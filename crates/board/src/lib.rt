@@ -1,19 +1,13 @@
-// The board's calls, on a board that is lent as its words: an accepted call leaves the words of the board after it, and a refused one the words
-// that came. A fresh board comes by value.
-// It may use the readers, the parts of the board and the rule book's definitions.
-mod clocking; // the clock moved
+// What the board's calls have in common: the definitions of their answers, and of the words that they leave; what more than one of them does; the
+// laws of a sound board that their proofs share. A fresh board comes by value. The calls themselves stand in planning and dispatch.
+// It may use the parts of the board, and the definitions of the readers and of the rule book; its code reads no plant file and no offer.
 mod parts; // what the calls share
-mod planning; // a job planned
-mod retiring; // the oldest job leaves
-mod sending; // jobs sent
 mod starting; // a fresh board
 
 use boardwords::Board;
-pub use clocking::clock_in;
-pub use planning::plan_in;
-pub use retiring::retire_in;
+pub use parts::live_count;
+pub use parts::put_front;
 use rulings::Ruling;
-pub use sending::send_in;
 pub use starting::fresh;
 
 // What a fresh board is made with.

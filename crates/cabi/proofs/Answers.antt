@@ -4,6 +4,7 @@
 --   given-refused, given-accepted   the number and the words after an answer whose board comes by value
 --   answered                        of a board's length, the answer is that for the board of the words
 --   ruled, ruled-cause              the same of a call that worked on the words, and of the list lent for the cause
+--   other-rows, lent-rows           the same of a report's list of words
 use Prim.Native.Nat.{ℕ}
 use mathlib.Core.Path.{_≡_, refl, _∙_, ap}
 use mathlib.Core.List.{List}
@@ -18,6 +19,7 @@ use Rattle.board.specs.declared.Ruled.{Ruled}
 use Rattle.boardwords.specs.Words.{boardIn}
 use Rattle.boardwords.specs.Codec.{wordsOf}
 use Rattle.board.specs.InWords.{wordsAfter}
+use Rattle.rowwords.specs.Rows.{rowsAfter}
 use Rattle.cabi.specs.Calls.{ruledOn, causeAfter}
 
 pub given-refused :
@@ -59,3 +61,16 @@ module _ (f : Board → Ruled) (w : List ℕ) where
   pub other-cause : (l : List ℕ) → (length w ≡ 5829 → ⊥) → l ≡ causeAfter w (ruledOn f w) l
   unfolding causeAfter
   other-cause l h = rw (ne-eqb (length w) 5829 h)
+
+-- ---- the report
+
+module _ (f : Board → Ruled) (w l : List ℕ) where
+  pub other-rows : (length w ≡ 5829 → ⊥) → (6 ≡ numberOf (ruledOn f w .ruling)) × (l ≡ rowsAfter (ruledOn f w) l)
+  unfolding ruledOn rowsAfter
+  other-rows h = let e = ne-eqb (length w) 5829 h in (rw e, rw e)
+
+  pub lent-rows :
+      (b : Board) (n : ℕ) (x : List ℕ) → length w ≡ 5829 → b ≡ boardIn w → n ≡ numberOf (f b .ruling) → x ≡ rowsAfter (f b) l
+      → (n ≡ numberOf (ruledOn f w .ruling)) × (x ≡ rowsAfter (ruledOn f w) l)
+  unfolding ruledOn
+  lent-rows b n x h eb en ex = let e = eq-eqb (length w) 5829 h in (rw (e, ← eb) en, rw (e, ← eb) ex)

@@ -1,17 +1,15 @@
 // The board's calls from C (include/snipefeather.h), on a board that is lent as its words. Words that are not as many as a board has are
 // refused with 6, and nothing is written. The words are worked on where they lie.
-// It may use board, report and boardwords, and decides nothing but the number of words.
-mod reporting; // the rows of a board written as words
-
+// It may use board, planning, dispatch, rowwords and boardwords, and decides nothing but the number of words.
 use board::Settings;
-use board::clock_in;
 use board::fresh;
-use board::plan_in;
-use board::retire_in;
-use board::send_in;
 use boardwords::BOARD_WORDS;
 use boardwords::write_board;
-use reporting::tell;
+use dispatch::clock_in;
+use dispatch::retire_in;
+use dispatch::send_in;
+use planning::plan_in;
+use rowwords::tell;
 use rulings::Ruling;
 use rulings::number;
 use rulings::value;
@@ -21,7 +19,8 @@ ghost use Rattle.rulings.specs.Answer.{numberOf};
 ghost use Rattle.board.specs.Boards.{freshRuled};
 ghost use Rattle.board.specs.Calls.{planned, sent, clocked, retired};
 ghost use Rattle.board.specs.InWords.{wordsAfter};
-ghost use Rattle.cabi.specs.Calls.{ruledOn, causeAfter, reportRuled, rowsAfter};
+ghost use Rattle.rowwords.specs.Rows.{reportRuled, rowsAfter};
+ghost use Rattle.cabi.specs.Calls.{ruledOn, causeAfter};
 
 // The value is written into the first word, where there is one.
 fn put_cause(cause: &mut [u32], v: u32)

@@ -10,7 +10,7 @@
 --   column-is                        the column of a time;  column-most: 80 columns fit a sum
 --   job-some                         each job has a point
 --   on-table                         the lines of a sound board name points of the table
-use Prim.Native.Nat.{ℕ, zero, suc, _+_, _-_, _*_, _/_, _≤_, _<_, min, max}
+use Prim.Native.Nat.{ℕ, suc, _+_, _-_, _*_, _/_, _≤_, _<_, min, max}
 use mathlib.Core.Path.{_≡_, refl, sym, _∙_, ap}
 use mathlib.Core.Bool.{Bool, true, false, cond, _&&_}
 use mathlib.Core.List.{List, [], _∷_}
@@ -36,29 +36,7 @@ use Rattle.stn.specs.Table.{Table, earliest}
 use Rattle.boardwords.specs.declared.Board.{Board}
 use Rattle.sound.specs.Sound.{Sound, SizedJob, SizedUse, pointsOf}
 use Rattle.chart.specs.declared.scale.Scale.{Scale}
-use Rattle.chart.specs.Chart.{
-  AllOnTable,
-  OnTable,
-  beginOf,
-  columnOf,
-  covers,
-  endTime,
-  firstFit,
-  firstTime,
-  fits,
-  glyphOf,
-  jobOf,
-  lastEnd,
-  lastTime,
-  leftOf,
-  linesEnd,
-  markAt,
-  rightOf,
-  scaleOf,
-  scaled,
-  widthOf,
-  widths,
-}
+use Rattle.chart.specs.Chart.{AllOnTable, beginOf, columnOf, covers, endTime, firstFit, firstTime, fits, glyphOf, jobOf, lastEnd, lastTime, leftOf, linesEnd, markAt, rightOf, scaleOf, scaled, widthOf, widths}
 
 -- ---- whose a point is
 

@@ -17,7 +17,7 @@ use Rattle.stn.specs.Table.{Table, earliest}
 use Rattle.gaps.specs.Cells.{tableOf}
 use Rattle.boardwords.specs.declared.Board.{Board}
 use Rattle.sound.specs.Sound.{Sound, SizedUse, pointsOf}
-use Rattle.chart.specs.Chart.{beginOf, endTime, firstFit, fits, lastEnd, lastTime, leftOf, linesEnd, rightOf, scaleOf, widthOf, widths}
+use Rattle.chart.specs.Chart.{beginOf, firstFit, fits, lastEnd, lastTime, leftOf, linesEnd, rightOf, scaleOf, widthOf, widths}
 
 abbrev most : ℕ
 most = 102000000

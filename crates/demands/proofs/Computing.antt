@@ -19,7 +19,8 @@ use Rattle.rulebook.specs.Reading.{recordOf, stepOf, putOf, stepsFrom, putsOfSt
 use Rattle.rulebook.specs.Book as Rulebook
 use Rattle.demands.specs.Model.{refusal, settled, planned, heard, retired, step}
 use Rattle.demands.specs.Model as Model
-use Rattle.demands.specs.Tidy.{heldRow, heldRows, tidy, tidied, runs, rules}
+use Rattle.lists.specs.Loops.{build}
+use Rattle.demands.specs.Tidy.{tidy, tidied, runs, rules}
 
 unfoldable pub recordOpen : Unit {0}
 unfolding word share isMark trailerOf recordStart badHead badRecord badDuration badAllocation someBadAllocation badAction
@@ -66,7 +67,7 @@ unfolding Rulebook.emptyLines Rulebook.fresh Model.fresh refusal settled planned
 boardOpen = tt
 
 unfoldable pub tidyOpen : Unit {0}
-unfolding heldRow heldRows tidy tidied runs rules
+unfolding build tidy tidied runs rules
 tidyOpen = tt
 
 unfoldable pub computing : Unit {0}

@@ -3,12 +3,11 @@
 --   shown-meets      one expectation;  all-meet: each of a list
 use mathlib.Core.Path.{_≡_, refl, sym, subst}
 use mathlib.Core.Logic.{_↔_}
-use mathlib.Core.Bool.{Bool, true, false, true≢false, not, _&&_}
+use mathlib.Core.Bool.{true, true≢false, not}
 use mathlib.Core.List.{List, [], _∷_}
-use Prim.Native.Nat.{ℕ, zero, suc, _<_}
-use native.Mathlib.Omega.{arith}
+use Prim.Native.Nat.{ℕ, _<_}
 use lib.Dec.{eqb, ltb, leb}
-use borrow.Author.Tests.{eqb-true, eqb-false, ltb-true, leb-true, not-true}
+use borrow.Author.Tests.{eqb-true, ltb-true, leb-true, not-true}
 use Rattle.masks.specs.Mask.{share}
 use Rattle.rulings.specs.declared.Ruling.{Ruling}
 use Rattle.rulings.specs.declared.Ruling.the-variants.{Accepted, Refused}
@@ -17,6 +16,8 @@ use Rattle.offer.specs.Offer.{knownOf, goalOf, chainOf, offerRuling, factCheck}
 use Rattle.offer.proofs.Right.{fact-check-right}
 use Rattle.facts.specs.Forward.{AllRun}
 use Rattle.plain.specs.Plain
+use Rattle.lists.specs.Loops.{allBelow}
+use Rattle.lists.proofs.AllBelow.{both-true, allBelow-to}
 use Rattle.stn.specs.Table.{bias, Table, Agree}
 use Rattle.rulebook.specs.Book.{Book, Least, Greatest}
 use Rattle.demands.specs.Model.{Board, book}
@@ -24,17 +25,13 @@ use Rattle.demands.specs.Model as Model
 use Rattle.demands.specs.Beside.{Sim}
 use Rattle.demands.specs.Tidy as Tidy
 use Rattle.demands.specs.Cases.{Expect, earliest, latest, runs, fails, same, Meets, AllMeet, SameTimetables}
-use Rattle.demands.specs.Shown.{isAccepted, readable, sameRow, sameCells, sameBoards, shown, allShown}
+use Rattle.demands.specs.Shown.{isAccepted, readable, sameCells, sameBoards, shown, allShown}
 use Rattle.demands.proofs.Values.{least-at, greatest-at}
 use Rattle.demands.proofs.Compare.{compare}
 use Rattle.demands.proofs.Tries.{turned}
 use Rattle.demands.proofs.Tidy.{fresh-keeps}
 
 -- ---- what the tests mean
-
-and-both : (x y : Bool) → (x && y) ≡ true → (x ≡ true) × (y ≡ true)
-and-both true y e = (refl, e)
-and-both false y e = absurd (true≢false (sym e))
 
 accepted-is : (r : Ruling) → isAccepted r ≡ true → r ≡ Accepted
 unfolding isAccepted
@@ -45,33 +42,17 @@ refused-is : (r : Ruling) → not (isAccepted r) ≡ true → r ≡ Accepted →
 unfolding isAccepted
 refused-is r e p = true≢false (sym (rw p at e))
 
-same-row : (f g : ℕ → ℕ) (n j : ℕ) → sameRow f g n ≡ true → j < n → f j ≡ g j
-unfolding sameRow
-same-row f g zero j e h = absurd (omega arith)
-same-row f g (suc n) j e h =
-    let p = and-both (sameRow f g n) (eqb (f n) (g n)) e in last (eqb j n) refl (eqb-true (f n) (g n) (p .1)) (same-row f g n j (p .0))
-  where
-    last : (b : Bool) → eqb j n ≡ b → f n ≡ g n → (j < n → f j ≡ g j) → f j ≡ g j
-    last true q here before = subst (λ (k : ℕ). f k ≡ g k) (sym (eqb-true j n q)) here
-    last false q here before = let d : j ≡ n → ⊥ = eqb-false j n q in before (omega (arith, d))
-
-same-cells : (c d : Table) (n m i j : ℕ) → sameCells c d n m ≡ true → i < m → j < n → c i j ≡ d i j
+same-cells : (c d : Table) (n i j : ℕ) → sameCells c d n ≡ true → i < n → j < n → c i j ≡ d i j
 unfolding sameCells
-same-cells c d n zero i j e hi hj = absurd (omega arith)
-same-cells c d n (suc m) i j e hi hj =
-    let p = and-both (sameCells c d n m) (sameRow (c m) (d m) n) e in
-    last (eqb i m) refl (same-row (c m) (d m) n j (p .1) hj) (λ h. same-cells c d n m i j (p .0) h hj)
-  where
-    last : (b : Bool) → eqb i m ≡ b → c m j ≡ d m j → (i < m → c i j ≡ d i j) → c i j ≡ d i j
-    last true q here before = subst (λ (k : ℕ). c k j ≡ d k j) (sym (eqb-true i m q)) here
-    last false q here before = let z : i ≡ m → ⊥ = eqb-false i m q in before (omega (arith, z))
+same-cells c d n i j e hi hj =
+    eqb-true _ _ (allBelow-to (λ j. eqb (c i j) (d i j)) n (allBelow-to (λ i. allBelow (λ j. eqb (c i j) (d i j)) n) n e i hi) j hj)
 
 -- the fact check is the forward definition
 readable-right : (p o : List ℕ) → readable p o ≡ true → (factCheck p o ≡ Accepted) ↔ AllRun (knownOf o) (chainOf p o) (goalOf o)
 unfolding readable
 readable-right p o e =
-    let one = and-both (isAccepted (plantRuling p)) _ e in
-    let two = and-both (isAccepted (offerRuling p o)) (not (share (knownOf o .pos) (knownOf o .neg))) (one .1) in
+    let one = both-true (isAccepted (plantRuling p)) _ e in
+    let two = both-true (isAccepted (offerRuling p o)) (not (share (knownOf o .pos) (knownOf o .neg))) (one .1) in
     fact-check-right p o (accepted-is (plantRuling p) (one .0)) (accepted-is (offerRuling p o) (two .0)) (not-true _ (two .1))
 
 -- ---- beside a board
@@ -84,31 +65,31 @@ module _ (b : Board) (k : Book) (m : Sim b k) where
   same-meets : (other : Board) (next : Book) → Sim other next → sameBoards b other ≡ true → SameTimetables k next
   unfolding sameBoards
   same-meets other next n e =
-      let p = and-both (eqb (Plain.liveCount (b .state)) (Plain.liveCount (other .state))) _ e in
+      let p = both-true (eqb (Plain.liveCount (b .state)) (Plain.liveCount (other .state))) _ e in
       let agree : Agree (Plain.liveCount (b .state)) (b .table) (other .table) =
-      λ i j hi hj. same-cells (b .table) (other .table) (Plain.liveCount (b .state)) (Plain.liveCount (b .state)) i j (p .1) hi hj in
+      λ i j hi hj. same-cells (b .table) (other .table) (Plain.liveCount (b .state)) i j (p .1) hi hj in
       let h = compare (m .holds) (n .holds) (eqb-true _ _ (p .0)) .0 agree in
       of-parts (λ (x : Book). SameTimetables x next) (subst (SameTimetables (book (b .state) (k .rules))) (sym (turned n)) h)
 
   pub shown-meets : (x : Expect) → shown b x ≡ true → Meets k x
   unfolding shown
   shown-meets (earliest x v) e =
-      let p = and-both (ltb x (Plain.liveCount (b .state))) _ e in
+      let p = both-true (ltb x (Plain.liveCount (b .state))) _ e in
       of-parts (λ (z : Book). Least z x v) (subst (Least (book (b .state) (k .rules)) x) (eqb-true _ _ (p .1)) (least-at (m .holds) x (ltb-true _ _ (p .0))))
   shown-meets (latest x v) e =
-      let p = and-both (ltb x (Plain.liveCount (b .state))) _ e in
+      let p = both-true (ltb x (Plain.liveCount (b .state))) _ e in
       of-parts (λ (z : Book). Greatest z x v) (subst (Greatest (book (b .state) (k .rules)) x) (eqb-true _ _ (p .1)) (greatest-at (m .holds) x (ltb-true _ _ (p .0))))
   shown-meets (runs p o) e =
-      let q = and-both (readable p o) _ e in
+      let q = both-true (readable p o) _ e in
       readable-right p o (q .0) .0 (accepted-is (factCheck p o) (q .1))
   shown-meets (fails p o) e =
-      let q = and-both (readable p o) _ e in
+      let q = both-true (readable p o) _ e in
       λ run. refused-is (factCheck p o) (q .1) (readable-right p o (q .0) .1 run)
   shown-meets (same H D cs) e =
-      let q = and-both (leb H bias) _ e in
+      let q = both-true (leb H bias) _ e in
       λ rs other run. same-meets (Tidy.runs (Model.fresh H D) cs) other (fresh-keeps H D (leb-true _ _ (q .0)) cs rs other run .1) (q .1)
 
   pub all-meet : (xs : List Expect) → allShown b xs ≡ true → AllMeet k xs
   unfolding allShown
   all-meet [] e = tt
-  all-meet (x ∷ xs) e = let p = and-both (shown b x) (allShown b xs) e in (shown-meets x (p .0), all-meet xs (p .1))
+  all-meet (x ∷ xs) e = let p = both-true (shown b x) (allShown b xs) e in (shown-meets x (p .0), all-meet xs (p .1))

@@ -5,12 +5,14 @@
 --   runs-exist     there is a run with these rulings;  fresh-exists: from the fresh book
 use mathlib.Core.Path.{_≡_, refl, ap, ap₂, sym, _∙_}
 use mathlib.Core.List.{List, [], _∷_}
-use Prim.Native.Nat.{ℕ, zero, suc, _+_, _≤_, _<_}
+use Prim.Native.Nat.{ℕ, _≤_, _<_}
 use native.Mathlib.Omega.{arith}
 use lib.ListN.{getD}
 use Rattle.rulings.specs.declared.Ruling.{Ruling}
 use Rattle.plain.specs.Plain
 use Rattle.plain.specs.Rules.{RuleOn}
+use Rattle.lists.specs.Loops.{build}
+use Rattle.lists.proofs.Build.{build-at}
 use Rattle.stn.specs.Table.{bias, Table, Still, Agree}
 use Rattle.stn.proofs.Agree.{agree-closed, agree-fits}
 use Rattle.rulebook.specs.Book.{Book, Point, Call, Runs}
@@ -18,7 +20,7 @@ use Rattle.rulebook.specs.Book as Rulebook
 use Rattle.demands.specs.Model.{Board, step}
 use Rattle.demands.specs.Model as Model
 use Rattle.demands.specs.Beside.{Holds, Sim}
-use Rattle.demands.specs.Tidy.{heldRow, heldRows, tidy, tidied, runs, rules}
+use Rattle.demands.specs.Tidy.{tidy, tidied, runs, rules}
 use Rattle.demands.proofs.Jobs.{still-jobs}
 use Rattle.demands.proofs.Tries.{live-positive}
 use Rattle.demands.proofs.Step.{sim-keeps, sim-exists, fresh-sim}
@@ -46,22 +48,9 @@ holds-agree {s} {c} d e h =
 
 -- ---- the cells of a tidied table
 
-row-at : (f : ℕ → ℕ) (i n j : ℕ) → j < n → getD (heldRow f i n) j 0 ≡ f (i + j)
-unfolding heldRow
-row-at f i zero j h = absurd (omega arith)
-row-at f i (suc n) zero h = ap f (omega arith)
-row-at f i (suc n) (suc j) h = row-at f (suc i) n j (omega arith) ∙ ap f (omega arith)
-
-rows-at : (c : Table) (n i k a : ℕ) → a < k → getD (heldRows c n i k) a [] ≡ heldRow (c (i + a)) 0 n
-unfolding heldRows
-rows-at c n i zero a h = absurd (omega arith)
-rows-at c n i (suc k) zero h = ap (λ (z : ℕ). heldRow (c z) 0 n) (omega arith)
-rows-at c n i (suc k) (suc a) h = rows-at c n (suc i) k a (omega arith) ∙ ap (λ (z : ℕ). heldRow (c z) 0 n) (omega arith)
-
 pub tidy-agree : (n : ℕ) (c : Table) → Agree n c (tidy n c)
 unfolding tidy
-tidy-agree n c i j hi hj =
-    sym (ap (λ (l : List ℕ). getD l j 0) (rows-at c n 0 n i hi) ∙ row-at (c (0 + i)) 0 n j hj ∙ ap₂ c (omega arith) (omega arith))
+tidy-agree n c i j hi hj = sym (ap (λ (l : List ℕ). getD l j 0) (build-at (λ i. build (c i) n) n i [] hi) ∙ build-at (c i) n j 0 hj)
 
 pub sim-tidied : {bd : Board} {bk : Book} → Sim bd bk → Sim (tidied bd) bk
 unfolding tidied

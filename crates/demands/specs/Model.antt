@@ -8,7 +8,7 @@
 --   step b c         the answer to a call
 --   fresh H D        the board at the start;  book s rs, board s c: by their parts
 use mathlib.Core.Bool.{true, false}
-use mathlib.Core.List.{List, [], _∷_}
+use mathlib.Core.List.{List}
 use mathlib.Core.Option.{Option, some, none}
 use Prim.Native.Nat.{ℕ, suc, _+_}
 use Rattle.rulings.specs.declared.Cause.{Cause}

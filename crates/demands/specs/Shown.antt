@@ -5,7 +5,7 @@
 --   shown b x       the board b shows what x expects;  allShown: each of a list
 use mathlib.Core.Bool.{Bool, true, false, not, _&&_}
 use mathlib.Core.List.{List, [], _∷_}
-use Prim.Native.Nat.{ℕ, zero, suc}
+use Prim.Native.Nat.{ℕ}
 use lib.Dec.{eqb, ltb, leb}
 use Rattle.masks.specs.Mask.{share}
 use Rattle.rulings.specs.declared.Ruling.{Ruling}
@@ -13,6 +13,7 @@ use Rattle.rulings.specs.declared.Ruling.the-variants.{Accepted, Refused}
 use Rattle.plant.specs.Plant.{plantRuling}
 use Rattle.offer.specs.Offer.{knownOf, offerRuling, factCheck}
 use Rattle.plain.specs.Plain
+use Rattle.lists.specs.Loops.{allBelow}
 use Rattle.stn.specs.Table as Gaps
 use Rattle.stn.specs.Table.{bias, Table}
 use Rattle.demands.specs.Model.{Board}
@@ -27,19 +28,14 @@ isAccepted (Refused c) = false
 unfoldable pub readable : List ℕ → List ℕ → Bool
 readable p o = isAccepted (plantRuling p) && (isAccepted (offerRuling p o) && not (share (knownOf o .pos) (knownOf o .neg)))
 
--- the first n cells of two rows; the first m rows of two tables, of n cells each
-unfoldable pub sameRow : (ℕ → ℕ) → (ℕ → ℕ) → ℕ → Bool
-sameRow f g zero = true
-sameRow f g (suc n) = sameRow f g n && eqb (f n) (g n)
-
-unfoldable pub sameCells : Table → Table → ℕ → ℕ → Bool
-sameCells c d n zero = true
-sameCells c d n (suc m) = sameCells c d n m && sameRow (c m) (d m) n
+-- the cells of the first n points
+unfoldable pub sameCells : Table → Table → ℕ → Bool
+sameCells c d n = allBelow (λ i. allBelow (λ j. eqb (c i j) (d i j)) n) n
 
 unfoldable pub sameBoards : Board → Board → Bool
 sameBoards a b =
     eqb (Plain.liveCount (a .state)) (Plain.liveCount (b .state))
-    && sameCells (a .table) (b .table) (Plain.liveCount (a .state)) (Plain.liveCount (a .state))
+    && sameCells (a .table) (b .table) (Plain.liveCount (a .state))
 
 unfoldable pub shown : Board → Expect → Bool
 shown b (earliest x v) = ltb x (Plain.liveCount (b .state)) && eqb (Gaps.earliest (b .table) x) v

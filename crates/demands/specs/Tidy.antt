@@ -4,26 +4,17 @@
 --   tidied b     a board with its table so
 --   runs, rules  the board after a list of calls, and their rulings, tidied after each call
 use mathlib.Core.List.{List, [], _∷_}
-use Prim.Native.Nat.{ℕ, zero, suc}
+use Prim.Native.Nat.{ℕ}
 use lib.ListN.{getD}
 use Rattle.rulings.specs.declared.Ruling.{Ruling}
 use Rattle.plain.specs.Plain
+use Rattle.lists.specs.Loops.{build}
 use Rattle.stn.specs.Table.{Table}
 use Rattle.rulebook.specs.Book.{Call}
 use Rattle.demands.specs.Model.{Board, board, step}
 
--- f i, f (i + 1), .., n of them
-unfoldable pub heldRow : (ℕ → ℕ) → ℕ → ℕ → List ℕ
-heldRow f i zero = []
-heldRow f i (suc n) = f i ∷ heldRow f (suc i) n
-
--- the rows i, i + 1, .., k of them, of n cells each
-unfoldable pub heldRows : Table → ℕ → ℕ → ℕ → List (List ℕ)
-heldRows c n i zero = []
-heldRows c n i (suc k) = heldRow (c i) 0 n ∷ heldRows c n (suc i) k
-
 unfoldable pub tidy : ℕ → Table → Table
-tidy n c = let rows = heldRows c n 0 n in λ i j. getD (getD rows i []) j 0
+tidy n c = let rows = build (λ i. build (c i) n) n in λ i j. getD (getD rows i []) j 0
 
 unfoldable pub tidied : Board → Board
 tidied b = board (b .state) (tidy (Plain.liveCount (b .state)) (b .table))

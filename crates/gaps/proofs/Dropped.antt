@@ -21,7 +21,6 @@ use Rattle.stn.proofs.Agree.{agree-closed}
 use Rattle.stn.proofs.Pick.{pick-closed, old-low, old-high, old-lt}
 use Rattle.gaps.specs.Cells.{cell, tableOf, overlaid, droppedCell, dropped}
 use Rattle.gaps.specs.GapTable.{GapTable}
-use Rattle.gaps.proofs.GapTable.{gapTable-closed}
 use Rattle.gaps.proofs.Overlaid.{overlay-in, overlay-out, overlaid-length, overlaid-agree, overlaid-rest}
 
 pub old-most : (f d x : ℕ) → oldNumber f d x ≤ x + d
@@ -225,11 +224,8 @@ module _ (l : List ℕ) (f d n : ℕ) (few : n ≤ 65) where
   unfolding pick
   dropped-gapTable H z some g =
       record {
-        bounded = closed .bounded;
+        closed = closed;
         rest = λ i j hi hj past. dropped-rest i j hi hj past;
-        diagonal = closed .diagonal;
-        triangle = closed .triangle;
-        floor = closed .floor;
         roof = λ i hi. omega (arith, roof i hi, g .roof (oldNumber f d i) (below i hi));
       }
     where
@@ -240,7 +236,7 @@ module _ (l : List ℕ) (f d n : ℕ) (few : n ≤ 65) where
       closed =
           agree-closed (n - d) (pick (oldNumber f d) (tableOf l)) (tableOf (dropped l f d n))
           (λ i j hi hj. let same = dropped-agree i j hi hj in omega (arith, same)) (omega arith)
-          (pick-closed (n - d) n (oldNumber f d) (tableOf l) (gapTable-closed g) (old-low f d 0 z) below)
+          (pick-closed (n - d) n (oldNumber f d) (tableOf l) (g .closed) (old-low f d 0 z) below)
 
       roof : (i : ℕ) → i < n - d → cell (dropped l f d n) 0 i ≡ cell l 0 (oldNumber f d i)
       roof i hi = rw (dropped-agree 0 i (omega arith) hi, old-low f d 0 z)

@@ -2,6 +2,5 @@ pub mod Overlaid
 pub mod Added
 pub mod Grown
 pub mod GapTable
-pub mod Ways
 pub mod Dropped
 pub mod Copied

@@ -7,8 +7,6 @@ mod adding; // a rule added, and whether it agrees
 mod copying; // cells copied
 mod dropping; // points dropped
 mod growing; // new points
-mod testing; // whether cells are a good table
-mod triangle; // whether no entry exceeds the sum by way of a third point
 
 pub use adding::add;
 pub use adding::agrees;
@@ -16,9 +14,9 @@ pub use adding::implies;
 pub use copying::cells_of;
 pub use copying::copy_cells;
 pub use copying::few_cells;
+pub use copying::fewest_cells;
 pub use dropping::drop_points;
 pub use growing::grow;
-pub use testing::is_gap_table;
 ghost use mathlib.Core.Path.{_≡_};
 ghost use Prim.Native.Nat.{_-_, _<_};
 ghost use lib.ListN.{length};

@@ -2,10 +2,15 @@
 --   same-use, no-words   a use is its three words
 --   cleared-put          a line whose count and first uses are written, and whose other places were cleared
 --   tidy-put             a line as it came, whose places not in use were cleared
--- A loop over all lines that changes each by h:
+--   laid-put             a line laid into words that held 0
+--   line-count           a line has at most 32 uses
+-- A loop that writes each of the lines of v, changed by h, over those of w₀:
 --   changed, turned      the lines as they will be, and the words after k turns
---   lines-ahead          line k is still as it came;  lines-few: and has at most 32 uses
+--   words-ahead          the words from line k on are still as they came
 --   lines-turn, lines-done   a turn, and the end
+-- The same over the lines' own words:
+--   lines-ahead          line k is still as it came;  lines-few: and has at most 32 uses
+--   own-turn             a turn
 use Prim.Native.Nat.{ℕ, _+_, _*_, _<_, _≤_}
 use mathlib.Core.Path.{_≡_, refl, sym, _∙_, ap}
 use mathlib.Core.List.{List, map}
@@ -37,43 +42,47 @@ no-words v a p q r = rw (p, q, r)
 
 -- ---- a line
 
--- a line whose first words, of the count and of the uses us, are there, and whose others were cleared
+-- a line whose count and first uses are those of us, and whose other words are 0
+line-held :
+    (w x : List ℕ) (at n : ℕ) (us : List Use) → n ≡ length us → n ≤ 32 → at + 97 ≤ length w → length x ≡ length w
+    → wordIn x at ≡ n → ((m : ℕ) → m < n → useAt (wordIn x) (at + 1) m ≡ getD us m noUse)
+    → ((k : ℕ) → at + 1 + 3 * n ≤ k → k < at + 97 → wordIn x k ≡ 0)
+    → ((k : ℕ) → k < at → wordIn x k ≡ wordIn w k) → ((k : ℕ) → at + 97 ≤ k → wordIn x k ≡ wordIn w k)
+    → x ≡ put w at (lineWords (lineFrom us))
+line-held w x at n us size few room len count uses clear below from =
+    line-put w x at us (omega arith) len room (count ∙ size) (λ m h. go m h (decLt m n)) below from
+  where
+    go : (m : ℕ) → m < 32 → Dec (m < n) → useAt (wordIn x) (at + 1) m ≡ getD us m noUse
+    go m h (yes lt) = uses m lt
+    go m h (no ge) =
+        no-words (wordIn x) (at + 1 + 3 * m) (clear (at + 1 + 3 * m) (omega arith) (omega arith))
+        (clear (at + 1 + 3 * m + 1) (omega arith) (omega arith)) (clear (at + 1 + 3 * m + 2) (omega arith) (omega arith))
+        ∙ sym (List·getD-eq-default us noUse {n = m} (omega arith))
+
+-- a use whose words are the same
+same-words : (v w : Words) (a m n : ℕ) → m < n → ((k : ℕ) → a + 1 ≤ k → k < a + 1 + 3 * n → v k ≡ w k) → useAt v (a + 1) m ≡ useAt w (a + 1) m
+same-words v w a m n lt same =
+    same-use v w (a + 1 + 3 * m) (a + 1 + 3 * m) (same (a + 1 + 3 * m) (omega arith) (omega arith))
+    (same (a + 1 + 3 * m + 1) (omega arith) (omega arith)) (same (a + 1 + 3 * m + 2) (omega arith) (omega arith))
+
+-- the count and the uses us are there, and the other words were cleared
 pub cleared-put :
     (w y x : List ℕ) (at n : ℕ) (us : List Use) → n ≡ length us → n ≤ 32 → at + 97 ≤ length w → length y ≡ length w
     → wordIn y at ≡ n → ((m : ℕ) → m < n → useAt (wordIn y) (at + 1) m ≡ getD us m noUse)
     → ((k : ℕ) → k < at → wordIn y k ≡ wordIn w k) → ((k : ℕ) → at + 97 ≤ k → wordIn y k ≡ wordIn w k)
     → x ≡ rewritten (λ k. 0) y (at + 1 + 3 * n) (at + 97) → x ≡ put w at (lineWords (lineFrom us))
 cleared-put w y x at n us size few room len count uses below from is =
-    line-put w x at us (omega arith) (size-x ∙ len) room (early at (omega arith) ∙ count ∙ size) each
-    (λ k h. early k (omega arith) ∙ below k h) (λ k h. late k h ∙ from k h)
+    line-held w x at n us size few room (ap length is ∙ rewritten-length z y (at + 1 + 3 * n) (at + 97) ∙ len) (early at (omega arith) ∙ count)
+    (λ m lt. same-words (wordIn x) (wordIn y) at m n lt (λ k lo hi. early k hi) ∙ uses m lt)
+    (λ k lo hi. ap (λ (l : List ℕ). getD l k 0) is ∙ rewritten-in z y (at + 1 + 3 * n) (at + 97) k lo hi (omega (arith, len)))
+    (λ k h. early k (omega arith) ∙ below k h)
+    (λ k h. ap (λ (l : List ℕ). getD l k 0) is ∙ rewritten-from z y (at + 1 + 3 * n) (at + 97) k h ∙ from k h)
   where
     z : ℕ → ℕ
     z k = 0
 
-    size-x : length x ≡ length y
-    size-x = ap length is ∙ rewritten-length z y (at + 1 + 3 * n) (at + 97)
-
     early : (k : ℕ) → k < at + 1 + 3 * n → wordIn x k ≡ wordIn y k
     early k h = ap (λ (l : List ℕ). getD l k 0) is ∙ rewritten-below z y (at + 1 + 3 * n) (at + 97) k h
-
-    late : (k : ℕ) → at + 97 ≤ k → wordIn x k ≡ wordIn y k
-    late k h = ap (λ (l : List ℕ). getD l k 0) is ∙ rewritten-from z y (at + 1 + 3 * n) (at + 97) k h
-
-    clear : (k : ℕ) → at + 1 + 3 * n ≤ k → k < at + 97 → wordIn x k ≡ 0
-    clear k lo hi = ap (λ (l : List ℕ). getD l k 0) is ∙ rewritten-in z y (at + 1 + 3 * n) (at + 97) k lo hi (omega (arith, len))
-
-    go : (m : ℕ) → m < 32 → Dec (m < n) → useAt (wordIn x) (at + 1) m ≡ getD us m noUse
-    go m h (yes lt) =
-        same-use (wordIn x) (wordIn y) (at + 1 + 3 * m) (at + 1 + 3 * m) (early (at + 1 + 3 * m) (omega arith))
-        (early (at + 1 + 3 * m + 1) (omega arith)) (early (at + 1 + 3 * m + 2) (omega arith))
-        ∙ uses m lt
-    go m h (no ge) =
-        no-words (wordIn x) (at + 1 + 3 * m) (clear (at + 1 + 3 * m) (omega arith) (omega arith))
-        (clear (at + 1 + 3 * m + 1) (omega arith) (omega arith)) (clear (at + 1 + 3 * m + 2) (omega arith) (omega arith))
-        ∙ sym (List·getD-eq-default us noUse {n = m} (omega arith))
-
-    each : (m : ℕ) → m < 32 → useAt (wordIn x) (at + 1) m ≡ getD us m noUse
-    each m h = go m h (decLt m n)
 
 pub tidy-put :
     (w x : List ℕ) (at : ℕ) → at + 97 ≤ length w → wordIn w at ≤ 32
@@ -83,45 +92,76 @@ tidy-put w x at room few is =
     cleared-put w w x at (wordIn w at) (lineOf (lineRead (wordIn w) at)) (sym (held-size (wordIn w) at few)) few room refl refl
     (λ m h. sym (held-use (wordIn w) at m h (omega arith))) (λ k h. refl) (λ k h. refl) is
 
+-- a line laid into words that hold 0: its count and the uses in use were copied
+pub laid-put :
+    (w v x : List ℕ) (at : ℕ) → at + 97 ≤ length w → wordIn v at ≤ 32 → ((k : ℕ) → at ≤ k → k < at + 97 → wordIn w k ≡ 0)
+    → x ≡ rewritten (wordIn v) w at (at + 1 + 3 * wordIn v at) → x ≡ put w at (lineWords (lineFrom (lineOf (lineRead (wordIn v) at))))
+laid-put w v x at room few zero is =
+    line-held w x at (wordIn v at) (lineOf (lineRead (wordIn v) at)) (sym (held-size (wordIn v) at few)) few room
+    (ap length is ∙ rewritten-length (wordIn v) w at end) (early at (omega arith) (omega arith))
+    (λ m lt. same-words (wordIn x) (wordIn v) at m (wordIn v at) lt (λ k lo hi. early k (omega arith) hi) ∙ sym (held-use (wordIn v) at m lt (omega arith)))
+    (λ k lo hi. late k lo ∙ zero k (omega arith) hi)
+    (λ k h. ap (λ (l : List ℕ). getD l k 0) is ∙ rewritten-below (wordIn v) w at end k h) (λ k h. late k (omega arith))
+  where
+    end : ℕ
+    end = at + 1 + 3 * wordIn v at
+
+    early : (k : ℕ) → at ≤ k → k < end → wordIn x k ≡ wordIn v k
+    early k lo hi = ap (λ (l : List ℕ). getD l k 0) is ∙ rewritten-in (wordIn v) w at end k lo hi (omega arith)
+
+    late : (k : ℕ) → end ≤ k → wordIn x k ≡ wordIn w k
+    late k h = ap (λ (l : List ℕ). getD l k 0) is ∙ rewritten-from (wordIn v) w at end k h
+
 -- ---- all lines
 
-module _ (h : Line → Line) (w₀ : List ℕ) where
+-- a line has at most 32 uses
+pub line-count : (v : List ℕ) (k : ℕ) → k < 16 → ((i : ℕ) → getD (linesRead (wordIn v)) i noLine .count ≤ 32) → wordIn v (52 + 97 * k) ≤ 32
+line-count v k l few =
+    let first : getD (linesRead (wordIn v)) k noLine .count ≡ wordIn v (52 + 97 * k) = ap (λ (q : Line). q .count) (build-at (lineAt (wordIn v)) 16 k noLine l) in
+    omega (arith, first, few k)
+
+module _ (h : Line → Line) (v w₀ : List ℕ) where
   -- the lines as they will be
   abbrev pub changed : List Line
-  changed = map h (linesRead (wordIn w₀))
+  changed = map h (linesRead (wordIn v))
 
   abbrev pub turned : ℕ → List ℕ
   turned k = put w₀ 52 (joined (λ i. lineWords (getD changed i noLine)) k)
 
-  changed-at : (k : ℕ) → k < 16 → getD changed k noLine ≡ h (lineAt (wordIn w₀) k)
+  changed-at : (k : ℕ) → k < 16 → getD changed k noLine ≡ h (lineAt (wordIn v) k)
   changed-at k l =
-      map-at h (linesRead (wordIn w₀)) k noLine noLine (omega (arith, build-length (lineAt (wordIn w₀)) 16))
-      ∙ ap h (build-at (lineAt (wordIn w₀)) 16 k noLine l)
+      map-at h (linesRead (wordIn v)) k noLine noLine (omega (arith, build-length (lineAt (wordIn v)) 16))
+      ∙ ap h (build-at (lineAt (wordIn v)) 16 k noLine l)
 
-  -- line k is still what it was
-  pub lines-ahead : (w : List ℕ) (k : ℕ) → w ≡ turned k → lineAt (wordIn w) k ≡ lineAt (wordIn w₀) k
-  lines-ahead w k is =
+  -- the words from line k on are still what they were
+  pub words-ahead : (w : List ℕ) (k : ℕ) → w ≡ turned k → (i : ℕ) → 52 + 97 * k ≤ i → wordIn w i ≡ wordIn w₀ i
+  words-ahead w k is i l =
       let f : ℕ → List ℕ = λ i. lineWords (getD changed i noLine) in
       let size : length (joined f k) ≡ 97 * k = length-joined f 97 k (λ i. length-line (getD changed i noLine)) in
-      same-line (wordIn w) (wordIn w₀) (52 + 97 * k)
-      (λ i l m. ap (λ (q : List ℕ). getD q i 0) is ∙ put-from w₀ 52 (joined f k) i (omega (arith, size)))
+      ap (λ (q : List ℕ). getD q i 0) is ∙ put-from w₀ 52 (joined f k) i (omega (arith, size))
 
   pub lines-turn :
-      (w x : List ℕ) (k : ℕ) → w ≡ turned k → k < 16 → x ≡ put w (52 + 97 * k) (lineWords (h (lineAt (wordIn w) k)))
-      → x ≡ turned (k + 1)
+      (w x : List ℕ) (k : ℕ) → w ≡ turned k → k < 16 → x ≡ put w (52 + 97 * k) (lineWords (h (lineAt (wordIn v) k))) → x ≡ turned (k + 1)
   lines-turn w x k is l new =
-      put-line-turn changed w₀ 52 k w x is
-      (new ∙ ap (λ (q : Line). put w (52 + 97 * k) (lineWords q)) (ap h (lines-ahead w k is) ∙ sym (changed-at k l)))
-
-  -- a line that is not reached yet has at most 32 uses
-  pub lines-few :
-      (w : List ℕ) (k : ℕ) → w ≡ turned k → k < 16 → ((i : ℕ) → getD (linesRead (wordIn w₀)) i noLine .count ≤ 32)
-      → wordIn w (52 + 97 * k) ≤ 32
-  lines-few w k is l few =
-      let ahead : wordIn w (52 + 97 * k) ≡ wordIn w₀ (52 + 97 * k) = ap (λ (q : Line). q .count) (lines-ahead w k is) in
-      let first : getD (linesRead (wordIn w₀)) k noLine .count ≡ wordIn w₀ (52 + 97 * k) =
-      ap (λ (q : Line). q .count) (build-at (lineAt (wordIn w₀)) 16 k noLine l) in
-      omega (arith, ahead, first, few k)
+      put-line-turn changed w₀ 52 k w x is (new ∙ ap (λ (q : Line). put w (52 + 97 * k) (lineWords q)) (sym (changed-at k l)))
 
   pub lines-done : (w : List ℕ) (k : ℕ) (ls : List Line) → w ≡ turned k → k ≡ 16 → changed ≡ ls → w ≡ put w₀ 52 (joined (λ i. lineWords (getD ls i noLine)) 16)
   lines-done w k ls is e same = is ∙ ap turned e ∙ ap (λ (q : List Line). put w₀ 52 (joined (λ i. lineWords (getD q i noLine)) 16)) same
+
+-- ---- all lines, where they lie
+
+module _ (h : Line → Line) (w₀ : List ℕ) where
+  -- line k is still what it was
+  pub lines-ahead : (w : List ℕ) (k : ℕ) → w ≡ turned h w₀ w₀ k → lineAt (wordIn w) k ≡ lineAt (wordIn w₀) k
+  lines-ahead w k is = same-line (wordIn w) (wordIn w₀) (52 + 97 * k) (λ i l m. words-ahead h w₀ w₀ w k is i l)
+
+  pub own-turn :
+      (w x : List ℕ) (k : ℕ) → w ≡ turned h w₀ w₀ k → k < 16 → x ≡ put w (52 + 97 * k) (lineWords (h (lineAt (wordIn w) k)))
+      → x ≡ turned h w₀ w₀ (k + 1)
+  own-turn w x k is l new = lines-turn h w₀ w₀ w x k is l (new ∙ ap (λ (q : Line). put w (52 + 97 * k) (lineWords (h q))) (lines-ahead w k is))
+
+  -- a line that is not reached yet has at most 32 uses
+  pub lines-few :
+      (w : List ℕ) (k : ℕ) → w ≡ turned h w₀ w₀ k → k < 16 → ((i : ℕ) → getD (linesRead (wordIn w₀)) i noLine .count ≤ 32)
+      → wordIn w (52 + 97 * k) ≤ 32
+  lines-few w k is l few = omega (arith, words-ahead h w₀ w₀ w k is (52 + 97 * k) (omega arith), line-count w₀ k l few)

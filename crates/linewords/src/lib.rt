@@ -6,4 +6,5 @@ mod thinning; // what stays when points leave
 
 pub use clearing::tidy_lines;
 pub use copying::copy_lines;
+pub use copying::lay_lines;
 pub use thinning::stay_lines;

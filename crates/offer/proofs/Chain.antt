@@ -4,7 +4,6 @@
 --   known-twice, goal-twice, on-to-facts  refusal 10, and what comes after it
 --   plant-refused, offer-refused, on-to-chain   the order of the whole check
 use Prim.Native.Nat.{ℕ, _+_, _-_, _*_, _≤_, _<_}
-use native.Mathlib.Omega.{arith}
 use native.Mathlib.Numerals.{add-one}
 use mathlib.Core.Path.{_≡_, sym, ap, ap₂, subst, _∙_}
 use mathlib.Core.List.{List}

@@ -18,7 +18,7 @@ use rulings::refusal;
 use words::byte_at;
 use words::u32_at;
 ghost use mathlib.Core.Path.{_≡_};
-ghost use Prim.Native.Nat.{_+_, _*_, _≤_, _<_, _^_};
+ghost use Prim.Native.Nat.{_+_, _*_, _≤_, _<_};
 ghost use lib.ListN.{length};
 ghost use Rattle.plant.specs.Plant.{plantRuling, trailerOf};
 ghost use Rattle.facts.specs.Regression.{workBack};

@@ -3,8 +3,9 @@
 --   next-at             where the next step starts;  count-at: how many allocations it has
 --   length-steps, steps-none, steps-next, steps-done      the steps held: none, one more, all of them
 --   put-is, held-length, push-is, length-step-puts        an allocation, and one more of them held
---   StepHeld, step-none, step-count, step-over            the allocations of a step held behind others
---   PutsHeld, puts-none, puts-tidy, puts-more, puts-done  the allocations of the first steps held: none, one step more, all of them
+--   StepHeld, step-none, step-long, step-tidy, step-more, step-over   the allocations of a step held behind others
+--   PutsHeld, puts-none, puts-tidy, puts-more, puts-done  the allocations of the first steps held: none, one step more, all of them;  step-fits: there
+--                       is room for one more
 use Prim.Native.Nat.{ℕ, zero, suc, _+_, _*_, _≤_, _<_}
 use native.Mathlib.Omega.{arith}
 use native.Mathlib.Numerals.{add-one}
@@ -19,7 +20,7 @@ use Rattle.offer.specs.Offer.{stepCount, stepStart, stepEnd, offerRuling}
 use Rattle.offer.proofs.Steps.{Step, read-of}
 use Rattle.plain.specs.declared.Step as Declared
 use Rattle.lines.specs.Padded.{padded}
-use Rattle.lines.proofs.Padded.{padded-none, padded-push, take-padded}
+use Rattle.lines.proofs.Padded.{length-padded, padded-none, padded-push, take-padded}
 use Rattle.rulebook.specs.Reading.{recordOf, stepOf, stepsFrom, putOf, putsOfStep, putsFrom, offerOf}
 use Rattle.lines.specs.declared.Steps.{Steps}
 use Rattle.plain.specs.declared.Put.{Put}
@@ -110,7 +111,7 @@ put-is p o k start at j a b c d es ea ra rb rc rd = rw (ra, rb, rc, rd, es, ea)
 held-list : (l : List Put) → length l ≤ 32 → putsOf (putsHeld l) ≡ l
 held-list l h = take-padded 32 noPut l h
 
-pub held-length : (h : Puts) → h ≡ putsHeld (putsOf h) → length (putsOf h) ≡ h .count
+held-length : (h : Puts) → h ≡ putsHeld (putsOf h) → length (putsOf h) ≡ h .count
 held-length h e = sym (ap (λ (x : Puts). x .count) e)
 
 pub push-is :
@@ -153,8 +154,11 @@ module _ {p o : List ℕ} {k : ℕ} {l : List Put} {j : ℕ} {h : Puts} (s : Ste
   so-far : length (l ++ putsOfStep p o k 0 j) ≡ length l + j
   so-far = length-append l (putsOfStep p o k 0 j) ∙ ap (λ (i : ℕ). length l + i) (length-step-puts p o k 0 j)
 
-  pub step-count : h .count ≡ length l + j
+  step-count : h .count ≡ length l + j
   step-count = ap (λ (x : Puts). x .count) (s .is) ∙ so-far
+
+  pub step-long : length (h .puts) ≡ 32
+  step-long = ap (λ (x : Puts). length (x .puts)) (s .is) ∙ length-padded 32 noPut (l ++ putsOfStep p o k 0 j)
 
   module _ (room : length l + j ≤ 32) where
     listed : putsOf h ≡ l ++ putsOfStep p o k 0 j
@@ -231,6 +235,14 @@ module _ {p o : List ℕ} {k : ℕ} {h : Puts} (s : PutsHeld p o k h) (room : k 
     where
       here : putsFrom p o 0 k ++ putsOfStep p o k 0 (allocationCount p (recordOf p o k)) ≡ putsFrom p o 0 k ++ putsOfStep p o (0 + k) 0 (allocationCount p (recordOf p o (0 + k)))
       here = ap (λ (i : ℕ). putsFrom p o 0 k ++ putsOfStep p o i 0 (allocationCount p (recordOf p o i))) (omega arith)
+
+-- there is room for one allocation more of step k, behind those that g and h hold
+pub step-fits :
+    {p o : List ℕ} {k j : ℕ} {g h : Puts} → PutsHeld p o k g → StepHeld p o k (putsOf g) j h → k < 8 → j < 4
+    → (length (putsOf g) + j ≤ 32) × (h .count < 32)
+step-fits s t room four =
+    let n = held-length _ (puts-tidy s (omega arith)) in
+    (omega (arith, n, s .few), omega (arith, n, s .few, step-count t))
 
 pub puts-done : (p o : List ℕ) (h : Puts) (k : ℕ) → PutsHeld p o k h → k ≡ stepCount o → h ≡ putsHeld (offerOf p o .puts)
 unfolding offerOf

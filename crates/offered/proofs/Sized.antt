@@ -2,14 +2,14 @@
 --   step-sized, put-sized   a step, an allocation;  offer-sized: the offer;  checked-sized: one that passes the fact check
 use Prim.Native.Nat.{ℕ, zero, suc, _+_, _*_, _≤_, _<_}
 use native.Mathlib.Omega.{arith}
-use mathlib.Core.Path.{_≡_, refl, sym, ap, subst, _∙_}
+use mathlib.Core.Path.{_≡_}
 use mathlib.Core.Bool.{false}
-use mathlib.Core.List.{List, [], _∷_, _++_}
+use mathlib.Core.List.{List}
 use lib.ListN.{length, length-append}
 use Rattle.words.specs.Word.{word}
 use Rattle.rulings.specs.declared.Ruling.the-variants.{Accepted}
 use Rattle.rulings.proofs.Laws.{both-passed}
-use Rattle.plant.specs.Plant.{plantRuling, trailerOf, recordStart, badAction, allocationCount}
+use Rattle.plant.specs.Plant.{plantRuling, trailerOf, badAction, allocationCount}
 use Rattle.plant.proofs.Good.{good}
 use Rattle.plant.proofs.Ranges.{duration-range, allocation-range}
 use Rattle.offer.specs.Offer.{stepCount, stepStart, offerRuling, chainRuling, factCheck}

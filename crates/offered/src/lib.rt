@@ -12,14 +12,13 @@ use words::byte_at;
 use words::offset_at;
 use words::u32_at;
 ghost use mathlib.Core.Path.{_≡_};
-ghost use mathlib.Core.List.{[], _∷_, _++_};
 ghost use Prim.Native.Nat.{_+_, _*_, _≤_, _<_};
 ghost use lib.ListN.{length};
 ghost use Rattle.rulings.specs.declared.Ruling.the-variants.{Accepted};
 ghost use Rattle.plant.specs.Plant.{plantRuling, trailerOf, shortest, longest};
 ghost use Rattle.offer.specs.Offer.{offerRuling, stepStart};
-ghost use Rattle.rulebook.specs.Reading.{recordOf, putOf, putsOfStep, offerOf};
-ghost use Rattle.lines.specs.Held.{noStep, noPut, putsOf};
+ghost use Rattle.rulebook.specs.Reading.{recordOf, putOf, offerOf};
+ghost use Rattle.lines.specs.Held.{noStep, noPut};
 ghost use Rattle.offered.specs.Held.{stepsHeld, putsHeld};
 
 fn no_step() -> Step
@@ -92,43 +91,7 @@ fn put_at(plant: &[u8], offer: &[u8], step: u32, start: usize, at: usize, j: usi
     }
 }
 
-// One allocation more.
-fn push_put(held: Puts, put: Put) -> Puts
-    requires { ⌜ (held .count < 32) × (held ≡ putsHeld (putsOf held)) ⌝ }
-    ensures { λ r. ⌜ r ≡ putsHeld (putsOf held ++ (put ∷ [])) ⌝ }
-{
-    let mut next = held;
-    let at = next.count;
-    next.puts[at] = put;
-    next.count = at + 1;
-    next
-}
-
-// The n allocations of a step, behind those held so far.
-fn push_step(
-    held: Puts,
-    plant: &[u8],
-    offer: &[u8],
-    step: u32,
-    start: usize,
-    at: usize,
-    n: usize,
-) -> Puts
-    requires { ⌜ (start ≡ recordOf (now plant) (now offer) step) × (at ≡ stepStart (now plant) (now offer) step) ⌝ }
-    requires { ⌜ (start + 28 + 12 * n ≤ length (now plant)) × (at + 4 + 4 * n ≤ length (now offer)) ⌝ }
-    requires { ⌜ (held .count + n ≤ 32) × (held ≡ putsHeld (putsOf held)) ⌝ }
-    ensures { λ r. ⌜ r ≡ putsHeld (putsOf held ++ putsOfStep (now (plant .entry)) (now (offer .entry)) step 0 n) ⌝ }
-{
-    let mut next = held;
-    let mut j = 0;
-    while j < n {
-        next = push_put(next, put_at(plant, offer, step, start, at, j));
-        j += 1;
-    }
-    next
-}
-
-// The allocations of the offer, step by step.
+// The allocations of the offer, step by step. Each is stored where it stays: an array that goes from function to function is copied for each.
 pub fn read_puts(plant: &[u8], t: Trailer, offer: &[u8]) -> Puts
     requires { ⌜ (plantRuling (now plant) ≡ Accepted) × (t ≡ trailerOf (now plant)) × (offerRuling (now plant) (now offer) ≡ Accepted) ⌝ }
     ensures { λ r. ⌜ r ≡ putsHeld (offerOf (now (plant .entry)) (now (offer .entry)) .puts) ⌝ }
@@ -145,7 +108,14 @@ pub fn read_puts(plant: &[u8], t: Trailer, offer: &[u8]) -> Puts
         let action = u32_at(offer, at);
         let start = start_of(plant, t, action);
         let n = allocation_count(plant, t, action);
-        held = push_step(held, plant, offer, k, start, at, n);
+        let mut j = 0;
+        while j < n {
+            let put = put_at(plant, offer, k, start, at, j);
+            let c = held.count;
+            held.puts[c] = put;
+            held.count = c + 1;
+            j += 1;
+        }
         at = at + 4 + 4 * n;
         k += 1;
     }

@@ -1,12 +1,12 @@
 -- The numbers of an action that passes 4 are in range. Assumes nothing.
 --   DurationInRange, AllocationInRange   what document 01 asks of a duration, of an allocation
 --   duration-range, allocation-range     it holds of an action that is not refused with 4
-use Prim.Native.Nat.{ℕ, zero, suc, _+_, _≤_, _<_}
+use Prim.Native.Nat.{ℕ, zero, suc, _≤_, _<_}
 use native.Mathlib.Omega.{arith}
 use native.Mathlib.Decide.{ℕ-discrete}
 use mathlib.Core.Path.{_≡_}
 use mathlib.Core.List.{List}
-use mathlib.Core.Bool.{false, _||_}
+use mathlib.Core.Bool.{false}
 use lib.Dec.{ltb}
 use borrow.Author.Tests.{ltb-false}
 use Rattle.masks.specs.Mask.{share}

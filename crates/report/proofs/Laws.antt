@@ -3,13 +3,12 @@
 --   length-rows              there is a row for each point but the origin
 --   found                    row k is that of point k, in number order
 --   Left                     the search for row x: left-start, left-here, left-next, left-end, as the loop needs them
---   sound-sized              a board that passes the test has few jobs and points
 --   listed-not, listed-sound what is listed of a board
 --   asked-short, asked-room  what a report comes to, by the room;  asked-fits: no more rows are stored than there are, and than there is room for
 --   asked-is                 with the rows stored, it is what is defined
 use Prim.Native.Nat.{ℕ, zero, suc, _+_, _-_, _≤_, _<_}
 use mathlib.Core.Path.{_≡_, refl, sym, _∙_, ap}
-use mathlib.Core.Bool.{Bool, true, false, _&&_}
+use mathlib.Core.Bool.{Bool, true, false}
 use mathlib.Core.List.{List, [], _∷_, _++_}
 use native.Mathlib.Omega.{arith}
 use native.Mathlib.Decide.{decLt}
@@ -21,16 +20,13 @@ use Rattle.rulings.specs.Answer.{refuse}
 use Rattle.plain.specs.declared.Job.{Job}
 use Rattle.plain.specs.Plain.{total}
 use Rattle.lines.specs.Held.{jobsOf, noJob}
-use Rattle.lines.specs.Asked.{Sized}
 use Rattle.lines.specs.Padded.{padded}
 use Rattle.lines.proofs.Padded.{length-padded, padded-none, take-padded}
 use Rattle.stn.specs.Table.{Table, earliest, latest}
-use Rattle.lists.proofs.AllBelow.{both-true}
 use Rattle.gaps.specs.Cells.{tableOf}
-use Rattle.gaps.specs.GapTable.{isGapTable}
 use Rattle.boardwords.specs.declared.Board.{Board}
-use Rattle.sound.specs.Sound.{pointsOf, allOf, sizedNumbers, sizedJobs, sizedLine, sentFrom, stillSent, sound}
-use Rattle.sound.proofs.Soundness.{jobs-sized}
+use Rattle.sound.specs.Sound.{pointsOf, sound}
+use Rattle.sound.proofs.Soundness.{sound-sized}
 use Rattle.board.specs.Calls.{refusal}
 use Rattle.report.specs.declared.Row.{Row}
 use Rattle.report.specs.declared.Listed.{Listed}
@@ -150,16 +146,6 @@ module _ (l : List ℕ) (js : List Job) (x : ℕ) where
     left-end over = sym (left .1 ∙ ap (λ (r : List Job). getD (rowsFrom (tableOf l) place (suc x - k) r) k noRow) over)
 
 -- ---- a board's rows
-
-pub sound-sized : (b : Board) → sound b ≡ true → Sized (b .jobs)
-unfolding sound
-sound-sized b h =
-    let n = pointsOf b in
-    let js = jobsOf (b .jobs) in
-    let rest =
-    allOf (sizedLine n) (b .lines) && (sentFrom true js && (isGapTable (b .gaps) (suc n) (b .horizon) && stillSent (b .gaps) 1 js)) in
-    let p = both-true (sizedNumbers (b .horizon) (b .lead) (b .clock)) (sizedJobs (b .jobs) && rest) h in
-    jobs-sized (b .jobs) (both-true (sizedJobs (b .jobs)) rest (p .1) .0)
 
 module _ (b : Board) where
   pub rows-few : sound b ≡ true → length (rowsOf b) ≤ 64

@@ -10,6 +10,7 @@ use gaps::agrees;
 use gaps::cells_of;
 use gaps::copy_cells;
 use gaps::few_cells;
+use gaps::fewest_cells;
 use gaps::grow;
 use gaps::implies;
 use lines::Rules;
@@ -91,6 +92,10 @@ pub fn try_grown(t: &mut [u32], n: usize, m: usize, most: u32, rules: Rules) -> 
     ensures tried { λ r. ⌜ outcome r (now (t .exit)) ≡ addedAll (rulesOf rules) (n + m) (grown (now (t .entry)) n m most) ⌝ }
     ensures kept { λ r. ⌜ (r ≡ false → now (t .exit) ≡ now (t .entry)) ⌝ }
 {
+    if n + m <= 8 {
+        let few = fewest_cells(t);
+        return grow_or_put(t, n, m, most, rules, &few);
+    }
     if n + m <= 16 {
         let few = few_cells(t);
         return grow_or_put(t, n, m, most, rules, &few);

@@ -1,7 +1,6 @@
 -- A board by value is as sound as the board of its words. Assumes nothing.
 --   board-of-sound   the words of a sound board hold all of it
 --   sound-by-words   written and read again, a board is as sound as before: a count that no word holds is too large as the largest word, too
-use Prim.Native.Nat.{ℕ, _+_, _*_, _≤_, _<_}
 use mathlib.Core.Path.{_≡_, refl, sym, _∙_, ap}
 use mathlib.Core.Bool.{Bool, true, false}
 use native.Mathlib.Omega.{arith}

@@ -4,7 +4,7 @@
 --   framed-in            numbers, jobs and lines of words and their table lent are the board of the words
 --   unmarked             a board with a job in use that is marked by neither 0 nor 1 is not sound
 --   not-whole            nor is what stands for bytes that are not as many as a board has
-use Prim.Native.Nat.{ℕ, _+_, _*_, _≤_, _<_}
+use Prim.Native.Nat.{ℕ, _+_, _≤_, _<_}
 use mathlib.Core.Path.{_≡_, refl, sym, _∙_, ap}
 use mathlib.Core.Bool.{true, false}
 use mathlib.Core.List.{List, [], _∷_}

@@ -4,12 +4,13 @@
 --   all-to, all-of           a list whose elements are tested one by one
 --   first-to, first-of       sent jobs come first
 --   still-to, still-of       the points of sent jobs stand still
+--   sound-sized, sound-each  a board that passes the test has few jobs and points, and each job passes its own
 --   sound-to, sound-of       the whole board;  sound-is: both ways
 -- A law that ends in -to goes from the test to the definition, one that ends in -of back.
-use Prim.Native.Nat.{ℕ, zero, suc, _+_, _-_, _≤_, _<_}
+use Prim.Native.Nat.{ℕ, suc, _+_, _-_, _≤_, _<_}
 use mathlib.Core.Path.{_≡_, refl, sym, _∙_}
 use mathlib.Core.Logic.{_↔_}
-use mathlib.Core.Bool.{Bool, true, false, false≢true, not, _&&_, _||_}
+use mathlib.Core.Bool.{Bool, true, false, false≢true, not, _&&_}
 use mathlib.Core.List.{List, [], _∷_}
 use native.Mathlib.Omega.{arith}
 use lib.ListN.{length, getD, drop}
@@ -27,8 +28,8 @@ use Rattle.lists.proofs.All.{all-at, all-from}
 use Rattle.lists.proofs.AllBelow.{both-true, allBelow-to, allBelow-of}
 use Rattle.stn.specs.Table.{bias}
 use Rattle.gaps.specs.Cells.{cell}
-use Rattle.gaps.specs.GapTable.{isGapTable}
-use Rattle.gaps.proofs.GapTable.{gapTable-to, gapTable-of}
+use Rattle.gaptest.specs.Test.{isGapTable}
+use Rattle.gaptest.proofs.Test.{gapTable-to, gapTable-of}
 use Rattle.boardwords.specs.declared.Board.{Board}
 use Rattle.sound.specs.Sound.{
   SizedJob,
@@ -113,6 +114,9 @@ module _ (jobs : Jobs) where
 
   pub jobs-sized : sizedJobs jobs ≡ true → Sized jobs
   jobs-sized h = record { count = jobs-to h .0; points = jobs-to h .2 }
+
+  jobs-each : sizedJobs jobs ≡ true → allOf sizedJob (jobsOf jobs) ≡ true
+  jobs-each h = all-of SizedJob sizedJob job-of (jobsOf jobs) (jobs-to h .1)
 
 -- ---- lines
 
@@ -228,6 +232,21 @@ all-clauses :
 all-clauses p q r s t u = rw (p, q, r, s, t, u)
 
 module _ (b : Board) where
+  sound-jobs : sound b ≡ true → sizedJobs (b .jobs) ≡ true
+  unfolding sound
+  sound-jobs h =
+      let n = pointsOf b in
+      let js = jobsOf (b .jobs) in
+      let rest = allOf (sizedLine n) (b .lines) && (sentFrom true js && (isGapTable (b .gaps) (suc n) (b .horizon) && stillSent (b .gaps) 1 js)) in
+      let p = both-true (sizedNumbers (b .horizon) (b .lead) (b .clock)) (sizedJobs (b .jobs) && rest) h in
+      both-true (sizedJobs (b .jobs)) rest (p .1) .0
+
+  pub sound-sized : sound b ≡ true → Sized (b .jobs)
+  sound-sized h = jobs-sized (b .jobs) (sound-jobs h)
+
+  pub sound-each : sound b ≡ true → allOf sizedJob (jobsOf (b .jobs)) ≡ true
+  sound-each h = jobs-each (b .jobs) (sound-jobs h)
+
   -- the line of each resource, from the test of the list of lines
   lines-to : length (b .lines) ≡ 16 → allOf (sizedLine (pointsOf b)) (b .lines) ≡ true
       → (k : ℕ) → k < 16 → SizedLine (pointsOf b) (getD (b .lines) k noLine)

@@ -10,7 +10,7 @@
 --     sentFrom           sent jobs come first
 --     stillSent          each point of a sent job stands still;  standStill: the m points from x on do
 --   framed w l           the board that the test has before it: the numbers, jobs and lines of words, and a table lent
-use Prim.Native.Nat.{ℕ, zero, suc, _+_, _≤_, _<_}
+use Prim.Native.Nat.{ℕ, suc, _+_, _≤_, _<_}
 use mathlib.Core.Path.{_≡_}
 use mathlib.Core.Bool.{Bool, true, not, _&&_, _||_}
 use mathlib.Core.List.{List, [], _∷_}
@@ -27,7 +27,8 @@ use Rattle.lists.specs.All.{All}
 use Rattle.lists.specs.Loops.{allBelow}
 use Rattle.stn.specs.Table.{bias}
 use Rattle.gaps.specs.Cells.{cell}
-use Rattle.gaps.specs.GapTable.{GapTable, isGapTable}
+use Rattle.gaps.specs.GapTable.{GapTable}
+use Rattle.gaptest.specs.Test.{isGapTable}
 use Rattle.boardwords.specs.declared.Board.{Board}
 use Rattle.boardwords.specs.Words.{Words, heldJobs, linesRead}
 

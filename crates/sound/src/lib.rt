@@ -10,14 +10,14 @@ mod sizing; // numbers and jobs
 use boardwords::Board;
 use boardwords::are_marked;
 use boardwords::write_board;
-use gaps::is_gap_table;
+use gaptest::is_gap_table;
 use lining::are_lines_sized;
 use sent::is_sent_first;
 use sent::is_sent_still;
 use sizing::are_numbers_sized;
 pub use sizing::are_settings_sized;
 use sizing::is_each_sized;
-use sizing::points_in;
+pub use sizing::points_in;
 ghost use mathlib.Core.Path.{_≡_};
 ghost use mathlib.Core.Bool.{true};
 ghost use Prim.Native.Nat.{_≤_};

@@ -1,7 +1,7 @@
 -- Only the cells of the first n points count.
 --   agree-closed, agree-fits   tables that agree are both closed or neither, and allow the same timetables
 --   agree-add                  the same rule added to agreeing tables gives agreeing tables
-use mathlib.Core.Path.{_≡_, sym, _∙_}
+use mathlib.Core.Path.{sym, _∙_}
 use Prim.Native.Nat.{ℕ, _<_}
 use native.Mathlib.Omega.{arith}
 use Rattle.plain.specs.declared.Rule.{Rule}

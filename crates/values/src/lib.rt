@@ -1,13 +1,13 @@
 // The board's calls on a board by value, for the programs: the board is written as its words, ruled on there, and read again where accepted.
-// It may use boardwords and board, and rules on nothing itself.
+// It may use boardwords, board, planning and dispatch, and rules on nothing itself.
 use board::Ruled;
-use board::clock_in;
-use board::plan_in;
-use board::retire_in;
-use board::send_in;
 use boardwords::Board;
 use boardwords::read_board;
 use boardwords::write_board;
+use dispatch::clock_in;
+use dispatch::retire_in;
+use dispatch::send_in;
+use planning::plan_in;
 use rulings::Ruling;
 ghost use mathlib.Core.Path.{_≡_};
 ghost use lib.ListN.{length};

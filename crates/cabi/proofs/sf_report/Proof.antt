@@ -4,8 +4,8 @@ use mathlib.Core.Path.{refl}
 use lib.ListN.{length}
 use borrow.Author.Needs.{needs}
 use Rattle.boardwords.specs.Words.{boardIn}
-use Rattle.cabi.specs.Calls.{reportRuled}
-use Rattle.cabi.proofs.Rows.{other-rows, lent-rows}
+use Rattle.rowwords.specs.Rows.{reportRuled}
+use Rattle.cabi.proofs.Answers.{other-rows, lent-rows}
 use Rattle.cabi.proofs.sf_report.Statement.{statement}
 use Rattle.cabi.proofs.sf_report.Tie as tie
 

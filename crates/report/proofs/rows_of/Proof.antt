@@ -2,7 +2,8 @@
 use mathlib.Core.Path.{sym, _∙_}
 use borrow.Author.Needs.{needs}
 use borrow.Author.Tests.{not-true, not-false}
-use Rattle.report.proofs.Laws.{sound-sized, listed-not, listed-sound}
+use Rattle.sound.proofs.Soundness.{sound-sized}
+use Rattle.report.proofs.Laws.{listed-not, listed-sound}
 use Rattle.report.proofs.rows_of.Statement.{statement}
 use Rattle.report.proofs.rows_of.Tie as tie
 

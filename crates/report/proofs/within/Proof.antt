@@ -1,6 +1,5 @@
 -- `within` meets its contract, on both sides of the bound.
 use native.Mathlib.Omega.{arith}
-use borrow.Author.Needs.{needs}
 use Rattle.report.proofs.within.Statement.{statement}
 use Rattle.report.proofs.within.Tie as tie
 

@@ -1,5 +1,5 @@
 -- `add_new` meets its contract: a rule that is known already changes no cell, and one that agrees cuts no way off.
-use mathlib.Core.Path.{_≡_, sym, _∙_}
+use mathlib.Core.Path.{sym, _∙_}
 use borrow.Author.Tests.{leb-true}
 use borrow.Author.Needs.{needs}
 use Rattle.gaps.proofs.Added.{added-known, agrees-whole}

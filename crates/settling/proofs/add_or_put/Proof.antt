@@ -1,6 +1,5 @@
 -- `add_or_put` meets its contract: all rules are added, or the old cells of the live rows are put.
 use Prim.Native.Nat.{ℕ, _*_}
-use mathlib.Core.Path.{_≡_}
 use mathlib.Core.Bool.{true≢false}
 use native.Mathlib.Omega.{arith}
 use lib.ListN.{getD}

@@ -12,8 +12,8 @@ use Rattle.settling.proofs.try_grown.Tie as tie
 add-if1 : tie.Need-add-if1
 add-if1 c = search needs
 
-few-cells-requires : tie.Need-few-cells-requires
-few-cells-requires c κs = search needs
+fewest-cells-requires : tie.Need-fewest-cells-requires
+fewest-cells-requires c κs = search needs
 
 slice-aggregate-grow-or-put : tie.Need-slice-aggregate-grow-or-put
 slice-aggregate-grow-or-put c = search needs
@@ -21,7 +21,7 @@ slice-aggregate-grow-or-put c = search needs
 grow-or-put-requires : tie.Need-grow-or-put-requires
 grow-or-put-requires c κs =
     let p = c .before .before .before .before .before .before .pre in
-    let size : length (c .before .before .few-cells .result) ≡ 1040 = search needs in
+    let size : length (c .before .before .fewest-cells .result) ≡ 520 = search needs in
     (p .0, (p .1, omega (arith, size)))
 
 same-length : tie.Need-same-length
@@ -30,20 +30,23 @@ same-length c = search needs
 returns : tie.Need-returns
 returns c =
     let A = c .before .before .before .before .before .before .before .before .before .args in
-    let kept = c .before .before .before .before .before .few-cells in
+    let kept = c .before .before .before .before .before .fewest-cells in
     let tried = c .before .before .grow-or-put .ensures in
-    (tried .0, λ e. put-back (A .t .now) (kept .result) _ ((A .n + A .m) * 65) (λ k h. few-kept (A .t .now) (kept .result) 1040 (kept .ensures) k (omega (arith, c .before .before .before .before .before .before .before .if1 .taken))) (tried .1 e))
+    (tried .0, λ e. put-back (A .t .now) (kept .result) _ ((A .n + A .m) * 65) (λ k h. few-kept (A .t .now) (kept .result) 520 (kept .ensures) k (omega (arith, c .before .before .before .before .before .before .before .if1 .taken))) (tried .1 e))
 
-cells-of-requires : tie.Need-cells-of-requires
-cells-of-requires c κs = search needs
+add-if2 : tie.Need-add-if2
+add-if2 c = search needs
+
+few-cells-requires : tie.Need-few-cells-requires
+few-cells-requires c κs = search needs
 
 slice-aggregate-grow-or-put-2 : tie.Need-slice-aggregate-grow-or-put-2
 slice-aggregate-grow-or-put-2 c = search needs
 
 grow-or-put-requires-2 : tie.Need-grow-or-put-requires-2
 grow-or-put-requires-2 c κs =
-    let p = c .before .before .before .before .before .before .pre in
-    let size : length (c .before .before .cells-of .result) ≡ 4225 = search needs in
+    let p = c .before .before .before .before .before .before .before .pre in
+    let size : length (c .before .before .few-cells .result) ≡ 1040 = search needs in
     (p .0, (p .1, omega (arith, size)))
 
 same-length-2 : tie.Need-same-length-2
@@ -51,9 +54,31 @@ same-length-2 c = search needs
 
 returns-2 : tie.Need-returns-2
 returns-2 c =
-    let A = c .before .before .before .before .before .before .before .before .before .args in
-    let kept = c .before .before .before .before .before .cells-of in
+    let A = c .before .before .before .before .before .before .before .before .before .before .args in
+    let kept = c .before .before .before .before .before .few-cells in
     let tried = c .before .before .grow-or-put2 .ensures in
+    (tried .0, λ e. put-back (A .t .now) (kept .result) _ ((A .n + A .m) * 65) (λ k h. few-kept (A .t .now) (kept .result) 1040 (kept .ensures) k (omega (arith, c .before .before .before .before .before .before .before .if2 .taken))) (tried .1 e))
+
+cells-of-requires : tie.Need-cells-of-requires
+cells-of-requires c κs = search needs
+
+slice-aggregate-grow-or-put-3 : tie.Need-slice-aggregate-grow-or-put-3
+slice-aggregate-grow-or-put-3 c = search needs
+
+grow-or-put-requires-3 : tie.Need-grow-or-put-requires-3
+grow-or-put-requires-3 c κs =
+    let p = c .before .before .before .before .before .before .before .pre in
+    let size : length (c .before .before .cells-of .result) ≡ 4225 = search needs in
+    (p .0, (p .1, omega (arith, size)))
+
+same-length-3 : tie.Need-same-length-3
+same-length-3 c = search needs
+
+returns-3 : tie.Need-returns-3
+returns-3 c =
+    let A = c .before .before .before .before .before .before .before .before .before .before .args in
+    let kept = c .before .before .before .before .before .cells-of in
+    let tried = c .before .before .grow-or-put3 .ensures in
     (tried .0, λ e. put-back (A .t .now) (kept .result) _ ((A .n + A .m) * 65) (λ k h. ap (λ (w : List ℕ). getD w k 0) (kept .ensures)) (tried .1 e))
 
 pub try-grown-spec : {M : Type 1} → statement M
@@ -61,13 +86,19 @@ try-grown-spec =
     tie.close
     (tie.spec
     add-if1
-    few-cells-requires
+    fewest-cells-requires
     slice-aggregate-grow-or-put
     grow-or-put-requires
     same-length
     returns
-    cells-of-requires
+    add-if2
+    few-cells-requires
     slice-aggregate-grow-or-put-2
     grow-or-put-requires-2
     same-length-2
-    returns-2)
+    returns-2
+    cells-of-requires
+    slice-aggregate-grow-or-put-3
+    grow-or-put-requires-3
+    same-length-3
+    returns-3)

@@ -9,7 +9,7 @@ use native.Mathlib.Omega.{arith}
 use borrow.Author.Needs.{needs}
 use Rattle.lines.specs.declared.Line.{Line}
 use Rattle.boardwords.specs.Words.{wordIn, heldJobs, linesRead}
-use Rattle.gaps.specs.GapTable.{isGapTable}
+use Rattle.gaptest.specs.Test.{isGapTable}
 use Rattle.sound.specs.Sound.{allOf, sizedLine, sound}
 use Rattle.sound.proofs.Flags.{fails, passes, holds, breaks}
 use Rattle.sound.proofs.Soundness.{numbers-to, jobs-sized}

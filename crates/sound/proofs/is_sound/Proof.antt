@@ -1,7 +1,7 @@
 -- `sound::is_sound` meets its contract: the board is written as words.
 use Prim.Native.Nat.{ℕ}
 use mathlib.Core.List.{List}
-use mathlib.Core.Path.{_≡_, ap, _∙_}
+use mathlib.Core.Path.{ap, _∙_}
 use borrow.Author.Needs.{needs}
 use Rattle.boardwords.specs.Words.{boardIn}
 use Rattle.sound.specs.Sound.{sound}

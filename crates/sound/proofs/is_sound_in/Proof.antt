@@ -1,7 +1,6 @@
 -- `sound::is_sound_in` meets its contract: the marks, and then the clauses.
 use Prim.Native.Nat.{_-_}
-use mathlib.Core.Path.{_≡_, sym, _∙_, ap}
-use native.Mathlib.Omega.{arith}
+use mathlib.Core.Path.{sym, _∙_, ap}
 use borrow.Author.Needs.{needs}
 use Rattle.boardwords.specs.Words.{wordIn}
 use Rattle.sound.specs.Sound.{sound}

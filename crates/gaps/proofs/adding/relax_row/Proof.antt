@@ -1,5 +1,4 @@
 -- A row that no way across the rule can shorten is left as it is; every other is relaxed.
-use mathlib.Core.Path.{_≡_}
 use native.Mathlib.Omega.{arith}
 use borrow.Author.Needs.{needs}
 use Rattle.gaps.proofs.Added.{relaxed-same}

@@ -6,12 +6,12 @@ use lib.ListN.{length}
 use Rattle.lines.proofs.LineLaws.{tidied, tidied-all}
 use Rattle.boardwords.proofs.Put.{put-none}
 use Rattle.boardwords.specs.Words.{wordIn, linesRead}
-use Rattle.linewords.proofs.Lines.{turned, lines-turn, lines-few, lines-done}
+use Rattle.linewords.proofs.Lines.{turned, own-turn, lines-few, lines-done}
 use Rattle.linewords.proofs.clearing.tidy_lines.Statement.{statement}
 use Rattle.linewords.proofs.clearing.tidy_lines.Tie as tie
 
 abbrev Inv-loop : tie.InvT-loop
-Inv-loop w₀ k₀ w k = (k ≤ 16) × (w ≡ turned tidied w₀ k) × (length w ≡ length w₀)
+Inv-loop w₀ k₀ w k = (k ≤ 16) × (w ≡ turned tidied w₀ w₀ k) × (length w ≡ length w₀)
 
 abbrev μ-loop : tie.MeasureT-loop
 μ-loop w₀ k₀ w k = 16 - k
@@ -36,7 +36,7 @@ loop-less c = omega arith
 
 loop-again : tie.Need-loop-again Inv-loop μ-loop
 loop-again c = let L = c .before .before .before .before .before .loop in
-    (omega arith, lines-turn tidied (c .before .before .before .before .before .before .before .args .w .now) (L .w) _ (L .k) (L .inv .1) (omega arith) (c .before .before .tidy-line .ensures), omega arith)
+    (omega arith, own-turn tidied (c .before .before .before .before .before .before .before .args .w .now) (L .w) _ (L .k) (L .inv .1) (omega arith) (c .before .before .tidy-line .ensures), omega arith)
 
 same-length : tie.Need-same-length Inv-loop μ-loop
 same-length c = omega arith
@@ -44,7 +44,7 @@ same-length c = omega arith
 returns : tie.Need-returns Inv-loop μ-loop
 returns c = let L = c .before .loop in
     let w = c .before .before .before .args .w .now in
-    lines-done tidied w (L .w) (L .k) _ (L .inv .1) (omega arith) (tidied-all (linesRead (wordIn w)))
+    lines-done tidied w w (L .w) (L .k) _ (L .inv .1) (omega arith) (tidied-all (linesRead (wordIn w)))
 
 pub tidy-lines-spec : {M : Type 1} → statement M
 tidy-lines-spec =

@@ -1,7 +1,7 @@
 -- `freeze` meets its contract. The loop goes down the list of jobs: the points set so far and those of the jobs left are all of them.
 use Prim.Native.Nat.{_≤_, _-_, _+_}
 use native.Mathlib.Omega.{arith}
-use mathlib.Core.Path.{_≡_, refl, ap}
+use mathlib.Core.Path.{_≡_, ap}
 use lib.ListN.{drop, length}
 use borrow.Author.Needs.{needs}
 use Rattle.plain.specs.Plain.{total, unsentPoints}

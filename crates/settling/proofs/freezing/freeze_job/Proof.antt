@@ -1,5 +1,4 @@
 -- `freeze_job` meets its contract: a sent job has no point to set.
-use mathlib.Core.Path.{_≡_, refl}
 use borrow.Author.Needs.{needs}
 use Rattle.plain.specs.Plain.{freeze}
 use Rattle.settling.specs.Settled.{addedEach}

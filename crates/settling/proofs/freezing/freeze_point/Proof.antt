@@ -1,5 +1,4 @@
 -- `freeze_point` meets its contract: the rule that it adds is the one of the two that can change a cell.
-use mathlib.Core.Path.{_≡_}
 use borrow.Author.Needs.{needs}
 use Rattle.settling.proofs.Frozen.{asked, frozen-one}
 use Rattle.settling.proofs.freezing.freeze_point.Statement.{statement}

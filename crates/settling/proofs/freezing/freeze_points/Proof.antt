@@ -2,7 +2,6 @@
 use Prim.Native.Nat.{_≤_, _-_, _+_}
 use native.Mathlib.Omega.{arith}
 use mathlib.Core.List.{[], _∷_}
-use borrow.Author.Needs.{needs}
 use Rattle.plain.specs.Plain.{range}
 use Rattle.plain.proofs.Points.{range-below}
 use Rattle.settling.proofs.Frozen.{Freezing, begins, goes-on, ends, range-first, range-next, range-over}

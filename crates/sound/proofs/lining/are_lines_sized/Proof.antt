@@ -4,7 +4,6 @@ use mathlib.Core.Bool.{_&&_}
 use mathlib.Core.Path.{_≡_, refl}
 use native.Mathlib.Omega.{arith}
 use lib.ListN.{drop, drop-of-length-le, length}
-use borrow.Author.Needs.{needs}
 use Rattle.boardwords.specs.Words.{wordIn, lineAt, linesRead}
 use Rattle.lists.proofs.Build.{build-length}
 use Rattle.sound.specs.Sound.{allOf, sizedLine}

@@ -1,0 +1,3 @@
+pub mod Clocked
+pub mod Sent
+pub mod Retired

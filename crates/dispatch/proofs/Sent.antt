@@ -1,0 +1,98 @@
+-- Laws of send's call. Assumes nothing.
+--   within            an unsent job's place is one of the list
+--   unsound, absent, sent-is   the answer, case by case
+--   unsent-place, sent-words   the same of jobs read from words, and the words after the call
+use Prim.Native.Nat.{ℕ, zero, suc, _+_, _≤_, _<_}
+use native.Mathlib.Omega.{arith}
+use native.Mathlib.Numerals.{add-one}
+use mathlib.Core.Path.{_≡_, refl, sym, ap, ap₂, subst, _∙_}
+use mathlib.Core.Bool.{true, false, false≢true}
+use mathlib.Core.List.{List, [], _∷_}
+use lib.ListN.{length, length-take}
+use Rattle.rulings.specs.declared.Ruling.the-variants.{Accepted}
+use Rattle.plain.specs.declared.Job.{Job}
+use Rattle.plain.specs.Plain
+use Rattle.plain.specs.Plain.{total, unsentAt, unsentPoints, marked}
+use Rattle.lines.specs.declared.Jobs.{Jobs}
+use Rattle.lines.specs.declared.Line.{Line}
+use Rattle.lines.specs.Held.{jobsOf, jobsFrom, linesOf, linesFrom}
+use Rattle.settling.specs.Frozen.{frozen}
+use Rattle.boardwords.specs.declared.Board.{Board}
+use Rattle.sound.specs.Sound.{sound}
+use Rattle.boardwords.specs.Words.{wordIn, heldJobs, boardIn, linesRead}
+use Rattle.boardwords.specs.Codec.{wordsOf, linesWords, put}
+use Rattle.boardwords.proofs.Lent.{lentTable, wordsWith, cells-lent}
+use Rattle.board.specs.declared.Ruled.{Ruled}
+use Rattle.board.specs.Calls.{refusal, sendRules, sent}
+use Rattle.board.specs.InWords.{fronted}
+use Rattle.board.proofs.InWords.{lines-kept, assembled}
+
+unsent-within : (js : List Job) (k : ℕ) → unsentAt k js ≡ true → k < length js
+unfolding unsentAt
+unsent-within [] k h = absurd (false≢true h)
+unsent-within (j ∷ js) zero h = omega arith
+unsent-within (j ∷ js) (suc k) h = let r = unsent-within js k h in omega (arith, r)
+
+module _ (b : Board) (place : ℕ) where
+  pub within : unsentAt place (jobsOf (b .jobs)) ≡ true → place + 1 ≤ b .jobs .count
+  within h =
+      let r = unsent-within (jobsOf (b .jobs)) place h in
+      let n = length-take (b .jobs .count) (b .jobs .jobs) in
+      omega (arith, r, n)
+
+  pub unsound : sound b ≡ false → refusal b 6 ≡ sent b place
+  unfolding sent
+  unsound e = rw e
+
+  module _ (e : sound b ≡ true) where
+    pub absent : unsentAt place (jobsOf (b .jobs)) ≡ false → refusal b 18 ≡ sent b place
+    unfolding sent
+    absent u = rw (e, u)
+
+    pub sent-is :
+        unsentAt place (jobsOf (b .jobs)) ≡ true → (jobs : Jobs) (lines : List Line) (cells : List ℕ) (n : ℕ)
+        → jobs ≡ jobsFrom (marked (place + 1) (jobsOf (b .jobs))) → lines ≡ linesFrom (linesOf (b .lines))
+        → n ≡ suc (total (jobsOf (b .jobs))) → cells ≡ frozen n (unsentPoints 1 (place + 1) (jobsOf (b .jobs))) (b .gaps)
+        → record {
+          ruling = Accepted;
+          board = record { horizon = b .horizon; lead = b .lead; clock = b .clock; jobs = jobs; lines = lines; gaps = cells };
+        }
+        ≡ sent b place
+    unfolding sent sendRules Plain.sentState Plain.liveCount
+    sent-is u jobs lines cells n ej el en ec =
+        let one = add-one place in
+        let fj : jobs ≡ jobsFrom (marked (suc place) (jobsOf (b .jobs))) = ej ∙ ap (λ (k : ℕ). jobsFrom (marked k (jobsOf (b .jobs)))) one in
+        let fc : cells ≡ frozen (suc (total (jobsOf (b .jobs)))) (unsentPoints 1 (suc place) (jobsOf (b .jobs))) (b .gaps) =
+        ec ∙ ap₂ (λ (k m : ℕ). frozen m (unsentPoints 1 k (jobsOf (b .jobs))) (b .gaps)) one en in
+        rw (e, u, fj, el, fc)
+
+-- ---- in words
+
+module _ (w : List ℕ) (len : length w ≡ 5829) (e : sound (boardIn w) ≡ true) (jobs : Jobs) (ej : jobs ≡ heldJobs (wordIn w)) (place : ℕ) where
+  pub unsent-place : unsentAt place (jobsOf jobs) ≡ true → place + 1 ≤ jobs .count
+  unsent-place u = subst (λ (j : Jobs). unsentAt place (jobsOf j) ≡ true → place + 1 ≤ j .count) (sym ej) (within (boardIn w) place) u
+
+  -- the words after the call, of jobs `old` in place of those read
+  abbrev pub SentWords : Jobs → Type 0
+  SentWords old =
+      (new : Jobs) (n : ℕ) (t x z : List ℕ) → unsentAt place (jobsOf old) ≡ true → new ≡ jobsFrom (marked (place + 1) (jobsOf old))
+      → n ≡ suc (total (jobsOf old)) → t ≡ frozen n (unsentPoints 1 (place + 1) (jobsOf old)) (lentTable w) → length (wordsWith w t) ≡ 5829
+      → x ≡ fronted (wordsWith w t) (wordIn w 2) new → z ≡ put x 52 (linesWords (linesFrom (linesOf (linesRead (wordIn x)))))
+      → z ≡ wordsOf (sent (boardIn w) place .board)
+
+  of-read : SentWords (boardIn w .jobs)
+  of-read new n t x z u enew en et size ex ez =
+      let b = boardIn w in
+      let cells : t ≡ frozen n (unsentPoints 1 (place + 1) (jobsOf (b .jobs))) (b .gaps) =
+      et ∙ ap (frozen n (unsentPoints 1 (place + 1) (jobsOf (b .jobs)))) (cells-lent w len) in
+      let same = lines-kept w e len t (wordIn w 2) new x ex in
+      assembled w e len t (wordIn w 2) new x ex size (linesFrom (linesOf (b .lines))) z
+      (ez ∙ ap (λ (ls : List Line). put x 52 (linesWords (linesFrom (linesOf ls)))) same)
+      ∙ ap (λ (r : Ruled). wordsOf (r .board)) (sent-is b place e u new (linesFrom (linesOf (b .lines))) t n enew refl en cells)
+
+  pub sent-words : SentWords jobs
+  sent-words = subst SentWords (sym ej) of-read
+
+  pub accepted : unsentAt place (jobsOf jobs) ≡ true → sent (boardIn w) place .ruling ≡ Accepted
+  unfolding sent
+  accepted u = let v : unsentAt place (jobsOf (boardIn w .jobs)) ≡ true = subst (λ (j : Jobs). unsentAt place (jobsOf j) ≡ true) ej u in rw (e, v)

@@ -1,0 +1,55 @@
+// Moves the clock.
+use board::live_count;
+use board::put_front;
+use boardwords::read_jobs;
+use lines::Jobs;
+use lines::start_rules;
+use lines::tidy_jobs;
+use linewords::tidy_lines;
+use rulings::Cause;
+use rulings::Ruling;
+use settling::try_rules;
+use sound::is_sound_in;
+ghost use mathlib.Core.Path.{_≡_};
+ghost use mathlib.Core.Bool.{true};
+ghost use Prim.Native.Nat.{_≤_};
+ghost use lib.ListN.{length};
+ghost use Rattle.boardwords.specs.Words.{wordIn, heldJobs, boardIn};
+ghost use Rattle.sound.specs.Sound.{sound};
+ghost use Rattle.board.specs.Calls.{clocked};
+ghost use Rattle.board.specs.InWords.{wordsAfter};
+
+// The clock's rules tried on a sound board: 20, or c becomes the clock and p0 of each unsent job is at least c and the lead.
+fn move_clock(w: &mut [u32], jobs: Jobs, c: u32) -> Ruling
+    requires { ⌜ length (now w) ≡ 5829 ⌝ }
+    requires { ⌜ (sound (boardIn (now w)) ≡ true) × (jobs ≡ heldJobs (wordIn (now w))) × (wordIn (now w) 2 ≤ c) × (c ≤ wordIn (now w) 0) ⌝ }
+    ensures ruling { λ r. ⌜ r ≡ clocked (boardIn (now (w .entry))) c .ruling ⌝ }
+    ensures words { λ _. ⌜ now (w .exit) ≡ wordsAfter (now (w .entry)) (clocked (boardIn (now (w .entry))) c) ⌝ }
+{
+    let rules = start_rules(c + w[1], jobs);
+    if !try_rules(&mut w[1604..], live_count(jobs), rules) {
+        return Ruling::Refused(Cause::Plain(20));
+    }
+    put_front(w, c, tidy_jobs(jobs));
+    tidy_lines(w);
+    Ruling::Accepted
+}
+
+// 6, 19 and 20, or the words of the board with its clock moved.
+pub fn clock_in(w: &mut [u32], c: u32) -> Ruling
+    requires { ⌜ length (now w) ≡ 5829 ⌝ }
+    ensures ruling { λ r. ⌜ r ≡ clocked (boardIn (now (w .entry))) c .ruling ⌝ }
+    ensures words { λ _. ⌜ now (w .exit) ≡ wordsAfter (now (w .entry)) (clocked (boardIn (now (w .entry))) c) ⌝ }
+{
+    if !is_sound_in(w) {
+        return Ruling::Refused(Cause::Plain(6));
+    }
+    let jobs = read_jobs(w);
+    if c < w[2] {
+        return Ruling::Refused(Cause::Plain(19));
+    }
+    if w[0] < c {
+        return Ruling::Refused(Cause::Plain(19));
+    }
+    move_clock(w, jobs, c)
+}

@@ -1,0 +1,34 @@
+-- The range test: the rows of live points, and then all cells past them.
+use mathlib.Core.Path.{sym, _∙_}
+use borrow.Author.Needs.{needs}
+use borrow.Author.Tests.{not-true, not-false}
+use Rattle.gaptest.specs.Test.{inRange}
+use Rattle.gaptest.proofs.testing.in_range.Statement.{statement}
+use Rattle.gaptest.proofs.testing.in_range.Tie as tie
+
+are-rows-in-range-requires : tie.Need-are-rows-in-range-requires
+are-rows-in-range-requires c κs = search needs
+
+returns : tie.Need-returns
+unfolding inRange
+returns c = rw (sym (c .before .are-rows-in-range .ensures) ∙ not-true _ (c .if1 .taken))
+
+mul-is-rest-clear : tie.Need-mul-is-rest-clear
+mul-is-rest-clear c = search needs
+
+is-rest-clear-requires : tie.Need-is-rest-clear-requires
+is-rest-clear-requires c κs = search needs
+
+returns-2 : tie.Need-returns-2
+unfolding inRange
+returns-2 c = rw (sym (c .before .before .are-rows-in-range .ensures) ∙ not-false _ (c .before .if1 .left)) (c .is-rest-clear .ensures)
+
+pub in-range-spec : {M : Type 1} → statement M
+in-range-spec =
+    tie.close
+    (tie.spec
+    are-rows-in-range-requires
+    returns
+    mul-is-rest-clear
+    is-rest-clear-requires
+    returns-2)

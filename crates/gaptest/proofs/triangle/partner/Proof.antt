@@ -1,0 +1,22 @@
+-- The next way, or the same once more.
+use mathlib.Core.Logic.{inl, inr}
+use mathlib.Core.Path.{refl}
+use native.Mathlib.Omega.{arith}
+use borrow.Author.Needs.{needs}
+use Rattle.gaptest.proofs.triangle.partner.Statement.{statement}
+use Rattle.gaptest.proofs.triangle.partner.Tie as tie
+
+add-if1 : tie.Need-add-if1
+add-if1 c = search needs
+
+add-result : tie.Need-add-result
+add-result c = search needs
+
+returns : tie.Need-returns
+returns c = (inr refl, omega arith, omega arith)
+
+returns-2 : tie.Need-returns-2
+returns-2 c = (inl refl, omega arith, omega arith)
+
+pub partner-spec : {M : Type 1} → statement M
+partner-spec = tie.close (tie.spec add-if1 add-result returns returns-2)

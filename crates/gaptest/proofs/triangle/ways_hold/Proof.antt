@@ -1,0 +1,159 @@
+-- The triangle test of a row and two third points. The loop's invariant: the differences joined so far have the top bit exactly where the
+-- first k cells hold by both.
+use mathlib.Core.Bool.{_&&_}
+use mathlib.Core.Path.{_≡_, _∙_}
+use Prim.Native.Nat.{ℕ, _≤_, _<_, _-_}
+use native.Mathlib.Omega.{arith}
+use lib.Dec.{leb}
+use Rattle.lists.proofs.AllBelow.{allBelow-none, allBelow-both}
+use Rattle.lists.specs.Loops.{allBelow}
+use Rattle.gaptest.specs.Test.{holds, top}
+use Rattle.gaptest.proofs.Ways.{ways-turn}
+use Rattle.gaptest.proofs.triangle.ways_hold.Statement.{statement}
+use Rattle.gaptest.proofs.triangle.ways_hold.Tie as tie
+
+abbrev Inv-loop : tie.InvT-loop
+Inv-loop t n i a b direct first second way other all₀ k₀ all k =
+    (k ≤ n) × (all < 4294967296) × (leb top all ≡ allBelow (λ (m : ℕ). holds t i a m && holds t i b m) k)
+
+abbrev μ-loop : tie.MeasureT-loop
+μ-loop t n i a b direct first second way other all₀ k₀ all k = n - k
+
+mul-direct : tie.Need-mul-direct Inv-loop μ-loop
+mul-direct c = omega arith
+
+mul-first : tie.Need-mul-first Inv-loop μ-loop
+mul-first c = omega arith
+
+mul-second : tie.Need-mul-second Inv-loop μ-loop
+mul-second c = omega arith
+
+add-way : tie.Need-add-way Inv-loop μ-loop
+add-way c = omega arith
+
+mul-way : tie.Need-mul-way Inv-loop μ-loop
+mul-way c = omega arith
+
+shared-slice-read-way : tie.Need-shared-slice-read-way Inv-loop μ-loop
+shared-slice-read-way c = omega arith
+
+add-other : tie.Need-add-other Inv-loop μ-loop
+add-other c = omega arith
+
+mul-other : tie.Need-mul-other Inv-loop μ-loop
+mul-other c = omega arith
+
+shared-slice-read-other : tie.Need-shared-slice-read-other Inv-loop μ-loop
+shared-slice-read-other c = omega arith
+
+loop-holds : tie.Need-loop-holds Inv-loop μ-loop
+loop-holds c = (omega arith, omega arith, allBelow-none _)
+
+add-lifted : tie.Need-add-lifted Inv-loop μ-loop
+add-lifted c = omega arith
+
+mul-lifted : tie.Need-mul-lifted Inv-loop μ-loop
+mul-lifted c = omega arith
+
+shared-slice-read-lifted : tie.Need-shared-slice-read-lifted Inv-loop μ-loop
+shared-slice-read-lifted c = omega arith
+
+add-lifted-2 : tie.Need-add-lifted-2 Inv-loop μ-loop
+add-lifted-2 c = omega arith
+
+mul-lifted-2 : tie.Need-mul-lifted-2 Inv-loop μ-loop
+mul-lifted-2 c = omega arith
+
+shared-slice-read-lifted-2 : tie.Need-shared-slice-read-lifted-2 Inv-loop μ-loop
+shared-slice-read-lifted-2 c = omega arith
+
+lifted-requires : tie.Need-lifted-requires Inv-loop μ-loop
+lifted-requires c κs =
+    let S = c .before .before .before .before .before .before .before in
+    let k = c .before .before .before .loop .k in
+    let at = S .pre .1 in
+    (at (S .args .i) (S .args .a) (omega arith) (omega arith), at (S .args .a) k (omega arith) (omega arith), at (S .args .i) k (omega arith) (omega arith))
+
+add-lifted-3 : tie.Need-add-lifted-3 Inv-loop μ-loop
+add-lifted-3 c = omega arith
+
+mul-lifted-3 : tie.Need-mul-lifted-3 Inv-loop μ-loop
+mul-lifted-3 c = omega arith
+
+shared-slice-read-lifted-3 : tie.Need-shared-slice-read-lifted-3 Inv-loop μ-loop
+shared-slice-read-lifted-3 c = omega arith
+
+add-lifted-4 : tie.Need-add-lifted-4 Inv-loop μ-loop
+add-lifted-4 c = omega arith
+
+mul-lifted-4 : tie.Need-mul-lifted-4 Inv-loop μ-loop
+mul-lifted-4 c = omega arith
+
+shared-slice-read-lifted-4 : tie.Need-shared-slice-read-lifted-4 Inv-loop μ-loop
+shared-slice-read-lifted-4 c = omega arith
+
+lifted-requires-2 : tie.Need-lifted-requires-2 Inv-loop μ-loop
+lifted-requires-2 c κs =
+    let S = c .before .before .before .before .before .before .before .before .before .before in
+    let k = c .before .before .before .before .before .before .loop .k in
+    let at = S .pre .1 in
+    (at (S .args .i) (S .args .b) (omega arith) (omega arith), at (S .args .b) k (omega arith) (omega arith), at (S .args .i) k (omega arith) (omega arith))
+
+add-k : tie.Need-add-k Inv-loop μ-loop
+add-k c = omega arith
+
+loop-less : tie.Need-loop-less Inv-loop μ-loop
+loop-less c = omega arith
+
+loop-again : tie.Need-loop-again Inv-loop μ-loop
+loop-again c =
+    let S = c .before .before .before .before .before .before .before .before .before .before .before in
+    let A = S .args in
+    let L = c .before .before .before .before .before .before .before .loop in
+    let at = S .pre .1 in
+    let turn =
+    ways-turn (A .t .now) (A .i) (A .a) (A .b) (L .k) (L .all) _ _ (at (A .i) (A .a) (omega arith) (omega arith)) (at (A .i) (A .b) (omega arith) (omega arith))
+    (at (A .a) (L .k) (omega arith) (omega arith)) (at (A .b) (L .k) (omega arith) (omega arith)) (at (A .i) (L .k) (omega arith) (omega arith)) (L .inv .1)
+    (L .inv .2) (c .before .before .before .lifted .ensures) (c .lifted2 .ensures) in
+    (omega arith, turn .0, turn .1)
+
+returns : tie.Need-returns Inv-loop μ-loop
+returns c =
+    let A = c .before .before .before .before .before .args in
+    let e : c .before .loop .k ≡ A .n = omega arith in
+    rw e at (c .before .loop .inv .2) ∙ allBelow-both (holds (A .t .now) (A .i) (A .a)) (holds (A .t .now) (A .i) (A .b)) (A .n)
+
+pub ways-hold-spec : {M : Type 1} → statement M
+ways-hold-spec =
+    tie.close
+    (tie.spec
+    Inv-loop
+    μ-loop
+    mul-direct
+    mul-first
+    mul-second
+    add-way
+    mul-way
+    shared-slice-read-way
+    add-other
+    mul-other
+    shared-slice-read-other
+    loop-holds
+    add-lifted
+    mul-lifted
+    shared-slice-read-lifted
+    add-lifted-2
+    mul-lifted-2
+    shared-slice-read-lifted-2
+    lifted-requires
+    add-lifted-3
+    mul-lifted-3
+    shared-slice-read-lifted-3
+    add-lifted-4
+    mul-lifted-4
+    shared-slice-read-lifted-4
+    lifted-requires-2
+    add-k
+    loop-less
+    loop-again
+    returns)

@@ -1,0 +1,4 @@
+pub mod Placed
+pub mod Drafts
+pub mod Planned
+pub mod PlanWords

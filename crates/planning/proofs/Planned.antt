@@ -1,0 +1,176 @@
+-- Laws of plan's call. Assumes nothing.
+--   Going b o r ls    what the code holds of a draft that goes on: the state to be, its points and rules;  going shows it
+--   asked             what trying the rules asks
+--   stopped, none-left, joined   the answer to an offer that was read, case by case
+--   held-offer, held-read        the offer as the code holds it
+--   bad-plant, unsound, on-reading   the answer before the offer is read
+--   bad-format, bad-chain, chain-good   what reading the offer comes to
+use Prim.Native.Nat.{ℕ, suc, _+_, _≤_, _<_}
+use native.Mathlib.Omega.{arith}
+use mathlib.Core.Path.{_≡_, refl, sym, ap, subst, _∙_}
+use mathlib.Core.Bool.{Bool, true, false}
+use mathlib.Core.List.{List}
+use lib.ListN.{length}
+use Rattle.rulings.specs.declared.Cause.{Cause}
+use Rattle.rulings.specs.declared.Ruling.{Ruling}
+use Rattle.rulings.specs.declared.Ruling.the-variants.{Accepted, Refused}
+use Rattle.rulings.proofs.Laws.{refused-no}
+use Rattle.plant.specs.Plant.{plantRuling}
+use Rattle.offer.specs.Offer.{offerRuling, chainRuling, factCheck}
+use Rattle.plain.specs.declared.Rule.{Rule}
+use Rattle.plain.specs.Plain.{Offer, State, Draft, liveCount, drafted}
+use Rattle.lines.specs.declared.Jobs.{Jobs}
+use Rattle.lines.specs.declared.Line.{Line}
+use Rattle.lines.specs.declared.Puts.{Puts}
+use Rattle.lines.specs.declared.Steps.{Steps}
+use Rattle.lines.specs.Held.{jobsFrom, linesFrom, rulesOf, rulesFrom, noPut, noStep, stepsOf}
+use Rattle.lines.specs.Held as Held
+use Rattle.lines.specs.Asked.{Read}
+use Rattle.lines.proofs.Padded.{take-padded, padded-at}
+use Rattle.lists.proofs.All.{all-at}
+use Rattle.stn.specs.Table.{bias, Closed}
+use Rattle.gaps.specs.Cells.{tableOf, grown}
+use Rattle.rulebook.specs.Reading.{offerOf, onRuling, readingOf}
+use Rattle.offered.specs.Held.{stepsHeld, putsHeld}
+use Rattle.offered.specs.Sized.{SizedPut, SizedOffer}
+use Rattle.settling.specs.Settled.{AllUsable, addedAll, outcome}
+use Rattle.boardwords.specs.declared.Board.{Board}
+use Rattle.sound.specs.Sound.{Sound, sound}
+use Rattle.drafts.specs.declared.drafting.Drafted.{Drafted}
+use Rattle.drafts.specs.DraftedAs.{DraftedAs}
+use Rattle.board.specs.Boards.{stateOf, boardOf}
+use Rattle.board.specs.Calls.{refused, refusal, settled, after, decided, heard, planned}
+use Rattle.planning.proofs.Drafts.{Joins, DraftJoins, drafted-joins}
+use Rattle.board.proofs.OnSound.{rules-back, closed, fitting}
+
+-- ---- an offer that was read
+
+pub record Going (b : Board) (o : Offer) (r : Drafted) (lines : List Line) : Type 0 where
+  pub next : State
+  pub m : ℕ
+  pub rs : List Rule
+  pub is : drafted (stateOf b) o ≡ Draft.go next m rs
+  pub jobs : r .jobs ≡ jobsFrom (next .jobs)
+  pub after : lines ≡ linesFrom (next .lines)
+  pub rules : r .rules ≡ rulesFrom rs
+  pub joins : Joins (stateOf b) o next m rs
+
+module _ (b : Board) (o : Offer) (r : Drafted) (lines : List Line) (e : DraftedAs r lines (drafted (stateOf b) o)) where
+  pub stopped : (c : Cause) → r .ruling ≡ Refused c → refused b c ≡ decided b (drafted (stateOf b) o)
+  unfolding decided DraftedAs
+  stopped c h = go (drafted (stateOf b) o) e
+    where
+      go : (q : Draft) → DraftedAs r lines q → refused b c ≡ decided b q
+      go (Draft.stop d) f = ap (λ (x : Ruling). record { ruling = x; board = b }) (sym h ∙ f)
+      go (Draft.go next m rs) f = absurd (refused-no c (sym h ∙ f .0))
+
+  pub going : Sound b → length (b .lines) ≡ 16 → SizedOffer o → r .ruling ≡ Accepted → Going b o r lines
+  unfolding DraftedAs DraftJoins
+  going s size sized h =
+      let h1 = s .horizon .1 in
+      go (drafted (stateOf b) o) refl e
+      (drafted-joins (stateOf b) o (s .sizes) (unfold liveCount in fitting b s size) (omega (arith, h1, s .clock, s .lead)) sized)
+    where
+      go : (q : Draft) → drafted (stateOf b) o ≡ q → DraftedAs r lines q → DraftJoins (stateOf b) o q → Going b o r lines
+      go (Draft.stop c) is f j = absurd (refused-no c (sym f ∙ h))
+      go (Draft.go next m rs) is f j =
+          record { next = next; m = m; rs = rs; is = is; jobs = f .1; after = f .2; rules = f .3; joins = j }
+
+module _ {b : Board} {o : Offer} {r : Drafted} {drawn : List Line} (g : Going b o r drawn) where
+  rules-are : rulesOf (r .rules) ≡ g .rs
+  rules-are = ap rulesOf (g .rules) ∙ rules-back (g .rs) (g .joins .few)
+
+  module _ (n m : ℕ) (en : n ≡ liveCount (stateOf b)) (em : m ≡ suc (length (o .steps))) where
+    points-are : m ≡ g .m
+    points-are = em ∙ sym (g .joins .points)
+
+    pub asked :
+        Sound b
+        → ((0 < n) × (n + m ≤ 65) × (b .horizon ≤ bias) × Closed n (tableOf (b .gaps)))
+        × ((r .rules .count ≤ 82) × AllUsable (n + m) (rulesOf (r .rules)))
+    unfolding liveCount
+    asked s =
+        let count = ap (λ (x : _). x .count) (g .rules) in (
+          (omega (arith, en), rw (en, points-are) (g .joins .room), s .horizon .1, rw en (closed b s)),
+          (omega (arith, count, g .joins .few), rw (en, points-are, rules-are) (g .joins .usable)),
+        )
+
+    module _ (ok : Bool) (cells : List ℕ) (eo : outcome ok cells ≡ addedAll (rulesOf (r .rules)) (n + m) (grown (b .gaps) n m (b .horizon))) where
+      tried : settled b 17 (g .next) (outcome ok cells) ≡ decided b (drafted (stateOf b) o)
+      unfolding decided
+      tried = rw (g .is) (ap (settled b 17 (g .next)) (eo ∙ rw (rules-are, en, points-are)))
+
+      pub none-left : ok ≡ false → refusal b 17 ≡ decided b (drafted (stateOf b) o)
+      unfolding settled outcome
+      none-left f = subst (λ (x : Bool). settled b 17 (g .next) (outcome x cells) ≡ decided b (drafted (stateOf b) o)) f tried
+
+      pub joined :
+          (jobs : Jobs) (lines : List Line) → ok ≡ true → jobs ≡ r .jobs → lines ≡ drawn
+          → record {
+            ruling = Accepted;
+            board = record { horizon = b .horizon; lead = b .lead; clock = b .clock; jobs = jobs; lines = lines; gaps = cells };
+          }
+          ≡ decided b (drafted (stateOf b) o)
+      unfolding settled outcome
+      joined jobs lines t ej el =
+          ap (λ (x : Board). record { ruling = Accepted; board = x }) (board-is jobs lines ej el)
+          ∙ subst (λ (x : Bool). settled b 17 (g .next) (outcome x cells) ≡ decided b (drafted (stateOf b) o)) t tried
+        where
+          board-is :
+              (jobs : Jobs) (lines : List Line) → jobs ≡ r .jobs → lines ≡ drawn
+              → record { horizon = b .horizon; lead = b .lead; clock = b .clock; jobs = jobs; lines = lines; gaps = cells } ≡ boardOf (g .next) cells
+          board-is jobs lines ej el = rw (ej, el, g .jobs, g .after, g .joins .clock, g .joins .horizon, g .joins .lead)
+
+-- ---- the offer as the code holds it
+
+module _ (o : Offer) (s : SizedOffer o) (steps : Steps) (puts : Puts) (es : steps ≡ stepsHeld (o .steps)) (ep : puts ≡ putsHeld (o .puts)) where
+  pub held-offer : (batch : ℕ) → batch ≡ o .batch → Held.heldOffer batch steps puts ≡ o
+  held-offer batch eb =
+      rw (eb, es, ep, take-padded 8 noStep (o .steps) (s .few), take-padded 32 noPut (o .puts) (s .count))
+
+  pub held-list : steps .count ≡ length (stepsOf steps)
+  held-list = rw (es, take-padded 8 noStep (o .steps) (s .few))
+
+  pub held-count : (steps .count ≡ length (o .steps)) × (steps .count ≤ 8)
+  held-count = let n = ap (λ (x : Steps). x .count) es in (n, omega (arith, n, s .few))
+
+  pub held-read : Read puts
+  held-read =
+      rw ep
+      (record {
+        count = s .count;
+        each = λ k h.
+            rw (padded-at 32 noPut (o .puts) k (omega (arith, s .count)))
+            (all-at (SizedPut (length (o .steps))) (o .puts) noPut (s .puts) k h .readable);
+      })
+
+-- ---- before the offer is read
+
+module _ (b : Board) (p o : List ℕ) where
+  pub bad-plant : (c : Cause) → plantRuling p ≡ Refused c → refused b c ≡ planned b p o
+  unfolding planned after
+  bad-plant c e = rw e
+
+  module _ (e : plantRuling p ≡ Accepted) where
+    pub unsound : sound b ≡ false → refusal b 6 ≡ planned b p o
+    unfolding planned after
+    unsound u = rw (e, u)
+
+    pub on-reading : sound b ≡ true → heard b (readingOf p o) ≡ planned b p o
+    unfolding planned after
+    on-reading u = rw (e, u)
+
+    -- ---- the reading
+
+    pub bad-format : (c : Cause) → offerRuling p o ≡ Refused c → refused b c ≡ heard b (readingOf p o)
+    unfolding heard readingOf onRuling factCheck
+    bad-format c f = rw (e, f)
+
+    module _ (f : offerRuling p o ≡ Accepted) where
+      pub bad-chain : (c : Cause) → chainRuling p o ≡ Refused c → refused b c ≡ heard b (readingOf p o)
+      unfolding heard readingOf onRuling factCheck
+      bad-chain c g = rw (e, f, g)
+
+      pub chain-good : chainRuling p o ≡ Accepted → decided b (drafted (stateOf b) (offerOf p o)) ≡ heard b (readingOf p o)
+      unfolding heard readingOf onRuling factCheck
+      chain-good g = rw (e, f, g)
