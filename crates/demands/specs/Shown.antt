@@ -1,6 +1,7 @@
 -- What a case of the proving table expects, as a test on the abstract board that computes. It is a device of the proof: the table's statement
 -- (Cases, ProvingTable) does not mention it, and proofs/Shown says that it means what the case says.
 --   readable p o    plant and offer are past refusals 1 to 4 and 7 to 9, and no fact is known both ways
+--   isAccepted r    the ruling is accepted;  sameCells c d n: two tables have the same cells among the first n points
 --   sameBoards a b  the same number of live points, and the same cells
 --   shown b x       the board b shows what x expects;  allShown: each of a list
 use mathlib.Core.Bool.{Bool, true, false, not, _&&_}

@@ -2,7 +2,7 @@
 --   starts-usable    the clock's rules name live points, and their numbers keep sums within 32 bits
 --   rules-are, rules-few, rules-usable   the rules that the code collects, on a sound board with a clock in range
 --   unsound, back, past, none-left, moved   the answer, case by case
---   start-fits, start-words, clocked-words   the same of jobs read from words, and the words after the call
+--   start-fits, start-words, clocked-words   the same of jobs read from words, and the words after the call (StartWords, ClockedWords)
 use Prim.Native.Nat.{ℕ, suc, _+_, _≤_, _<_}
 use native.Mathlib.Omega.{arith}
 use mathlib.Core.Path.{_≡_, refl, sym, ap, ap₂, subst, _∙_}

@@ -5,7 +5,7 @@
 --   some, few             it has points, and all of them are live
 --   in-reach              the test that it is over by c, no later than the horizon, reads the table within its bounds
 --   late, retired-is      the answer where it is not over, and where it is
---   leaving-words, retired-words, unsent-words   the same of jobs read from words, and the words after the call
+--   leaving-words, retired-words, unsent-words   the same of jobs read from words, and the words after the call (Leaving, RetiredWords)
 use mathlib.Core.Path.{_≡_, refl, sym, ap, subst, _∙_}
 use mathlib.Core.Bool.{Bool, true, false}
 use mathlib.Core.List.{List, [], _∷_, map}

@@ -1,7 +1,7 @@
 -- Laws of send's call. Assumes nothing.
 --   within            an unsent job's place is one of the list
 --   unsound, absent, sent-is   the answer, case by case
---   unsent-place, sent-words   the same of jobs read from words, and the words after the call
+--   unsent-place, sent-words, accepted   the same of jobs read from words, and the words after the call (SentWords)
 use Prim.Native.Nat.{ℕ, zero, suc, _+_, _≤_, _<_}
 use native.Mathlib.Omega.{arith}
 use native.Mathlib.Numerals.{add-one}

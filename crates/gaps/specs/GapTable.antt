@@ -8,7 +8,8 @@ use Rattle.stn.specs.Table.{bias, Closed}
 use Rattle.gaps.specs.Cells.{cell, tableOf}
 
 pub record GapTable (l : List ℕ) (n H : ℕ) : Type 0 where
-  -- "the table's diagonal is 0", "no entry exceeds the sum by way of a third point", and each point lies from 0 on
+  -- "the table's diagonal is 0", "no entry exceeds the sum by way of a third point", "each point lies from 0 ..", and a bound on gaps that
+  -- says no more than the other clauses (`bounded-follows`, proofs/GapTable)
   pub closed : Closed n (tableOf l)
   -- "cells without a live point are 0"
   pub rest : (i j : ℕ) → i < 65 → j < 65 → n ≤ i ⊎ n ≤ j → cell l i j ≡ 0

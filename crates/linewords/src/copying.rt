@@ -1,4 +1,4 @@
-// Lines copied from other words.
+// Lines copied from other words, or laid into words that hold 0.
 ghost use mathlib.Core.Path.{_≡_};
 ghost use Prim.Native.Nat.{ℕ, _+_, _≤_, _<_};
 ghost use lib.ListN.{length, getD};

@@ -91,7 +91,7 @@ fn put_at(plant: &[u8], offer: &[u8], step: u32, start: usize, at: usize, j: usi
     }
 }
 
-// The allocations of the offer, step by step. Each is stored where it stays: an array that goes from function to function is copied for each.
+// The allocations of the offer, step by step. Each is stored where it stays: an array that goes from function to function is copied at every call.
 pub fn read_puts(plant: &[u8], t: Trailer, offer: &[u8]) -> Puts
     requires { ⌜ (plantRuling (now plant) ≡ Accepted) × (t ≡ trailerOf (now plant)) × (offerRuling (now plant) (now offer) ≡ Accepted) ⌝ }
     ensures { λ r. ⌜ r ≡ putsHeld (offerOf (now (plant .entry)) (now (offer .entry)) .puts) ⌝ }

@@ -2,7 +2,7 @@
 --   Going b o r ls    what the code holds of a draft that goes on: the state to be, its points and rules;  going shows it
 --   asked             what trying the rules asks
 --   stopped, none-left, joined   the answer to an offer that was read, case by case
---   held-offer, held-read        the offer as the code holds it
+--   held-offer, held-list, held-count, held-read   the offer as the code holds it
 --   bad-plant, unsound, on-reading   the answer before the offer is read
 --   bad-format, bad-chain, chain-good   what reading the offer comes to
 use Prim.Native.Nat.{ℕ, suc, _+_, _≤_, _<_}

@@ -1,5 +1,5 @@
 // The report on a board that is lent as its words, into a list of words: four for each row.
-// It may use sound, report (a row), gaps and boardwords; it changes no board.
+// It may use board (the answer), sound, report (a row), gaps and boardwords; it changes no board.
 use boardwords::read_job;
 use gaps::earliest;
 use gaps::latest;

@@ -3,12 +3,14 @@
 --   SizedJob, SizedUse   a job's and a use's numbers are within the limits
 --   SentFirst js         sent jobs come before unsent ones
 --   StillSent l x js     each point of a sent job has its earliest equal to its latest; x is the first point of the list's first job
+--   pointsOf b           the live points beside the origin
 --   Sound b              the definition
 --   sound b              the test; proofs/Soundness says that it is true exactly when Sound b holds. It is made of
 --     sizedSettings H D  horizon and lead are within the limits: what fresh asks of them too
---     sizedNumbers, sizedJobs, sizedLine   the numbers are within the limits: of the board, of its jobs, of a line
+--     sizedNumbers, sizedJobs, sizedLine   the numbers are within the limits: of the board, of its jobs (sizedJob: of one), of a line
+--                        (sizedUse: of a use);  allOf f l: the test f holds of each
 --     sentFrom           sent jobs come first
---     stillSent          each point of a sent job stands still;  standStill: the m points from x on do
+--     stillSent          each point of a sent job stands still;  stillJob: of one job;  standStill: the m points from x on do
 --   framed w l           the board that the test has before it: the numbers, jobs and lines of words, and a table lent
 use Prim.Native.Nat.{ℕ, suc, _+_, _≤_, _<_}
 use mathlib.Core.Path.{_≡_}
