@@ -1,7 +1,8 @@
 -- Laws of calls on a board that is lent as its words. Assumes nothing.
 --   lines-many, is-sound, marks   what holds of the board of words that pass the test of soundness
 --   horizon-is          its horizon is their first word
---   jobs-sized, closed-lent, few-after   what the code of the calls asks of jobs, table and lines
+--   points-asked, jobs-sized, closed-lent, few-after   what the code of the calls asks of jobs, table and lines
+--   jobs-kept, marks-kept, clocked-kept, fronted-kept   a changed table leaves the jobs as they were, and so what becomes of them
 --   lines-kept          a changed table, another clock and other jobs leave the lines as they were
 --   assembled           with lines written too, the words are those of the board so made
 --   answered, accepted-words, unanswered   the words after an accepted call, and after a refused one
@@ -15,9 +16,10 @@ use Rattle.rulings.specs.declared.Cause.{Cause}
 use Rattle.rulings.specs.declared.Ruling.{Ruling}
 use Rattle.rulings.specs.declared.Ruling.the-variants.{Accepted, Refused}
 use Rattle.rulings.specs.Order.{ifAccepted}
+use Rattle.plain.specs.declared.Job.{Job}
 use Rattle.lines.specs.declared.Jobs.{Jobs}
 use Rattle.lines.specs.declared.Line.{Line}
-use Rattle.lines.specs.Held.{jobsOf, noLine}
+use Rattle.lines.specs.Held.{jobsOf, jobsFrom, noLine}
 use Rattle.lines.specs.Asked.{Sized}
 use Rattle.plain.specs.Plain.{total}
 use Rattle.stn.specs.Table.{Closed}
@@ -26,15 +28,16 @@ use Rattle.boardwords.specs.declared.Board.{Board}
 use Rattle.boardwords.specs.Words.{wordIn, heldJobs, linesRead, lineAt, allMarked, boardIn}
 use Rattle.boardwords.specs.Codec.{wordsOf, counted, headWords, jobsWords, linesWords, put}
 use Rattle.lists.proofs.Build.{build-length}
-use Rattle.boardwords.proofs.Boards.{same-lines}
+use Rattle.jobwords.specs.Fronted.{fronted}
+use Rattle.boardwords.proofs.Boards.{same-lines, same-marks, same-jobs}
 use Rattle.boardwords.proofs.Put.{put-length, put-from, put-frame, length-jobs}
 use Rattle.boardwords.proofs.Lent.{lentTable, wordsWith, cells-lent, with-word, written}
-use Rattle.sound.specs.Sound.{Sound, sound}
-use Rattle.sound.proofs.Soundness.{sound-to}
+use Rattle.sound.specs.Sound.{allOf, sizedJob, Sound, sound}
+use Rattle.sound.proofs.Soundness.{sound-to, sound-sized, sound-each}
 use Rattle.sound.proofs.InWords.{unmarked}
 use Rattle.board.specs.declared.Ruled.{Ruled}
 use Rattle.board.specs.Calls.{refused}
-use Rattle.board.specs.InWords.{wordsAfter, fronted}
+use Rattle.board.specs.InWords.{wordsAfter}
 use Rattle.board.proofs.OnSound.{sized, lines-small, closed}
 
 pub lines-many : (w : List ℕ) → length (boardIn w .lines) ≡ 16
@@ -73,15 +76,41 @@ module _ (w : List ℕ) (e : sound (boardIn w) ≡ true) where
   few-uses : (x : List ℕ) → linesRead (wordIn x) ≡ linesRead (wordIn w) → (k : ℕ) → getD (linesRead (wordIn x)) k noLine .count ≤ 32
   few-uses x same = subst (λ (ls : List Line). (k : ℕ) → getD ls k noLine .count ≤ 32) (sym same) (lines-small (boardIn w) is-sound (lines-many w))
 
-  -- jobs that were read from the words
-  module _ (jobs : Jobs) (ej : jobs ≡ heldJobs (wordIn w)) where
-    pub jobs-sized : Sized jobs
-    jobs-sized = subst Sized (sym ej) (sized (boardIn w) is-sound)
+  pub points-asked : (wordIn w 3 ≤ 16) × (allOf sizedJob (jobsOf (heldJobs (wordIn w))) ≡ true)
+  points-asked = (sound-sized (boardIn w) e .count, sound-each (boardIn w) e)
 
-    pub closed-lent : length w ≡ 5829 → (n : ℕ) → n ≡ suc (total (jobsOf jobs)) → Closed n (tableOf (lentTable w))
-    closed-lent len n en =
-        subst (λ (m : ℕ). Closed m (tableOf (lentTable w))) (sym (en ∙ ap (λ (j : Jobs). suc (total (jobsOf j))) ej))
-        (subst (λ (l : List ℕ). Closed (suc (total (jobsOf (boardIn w .jobs)))) (tableOf l)) (sym (cells-lent w len)) (closed (boardIn w) is-sound))
+  pub jobs-sized : Sized (heldJobs (wordIn w))
+  jobs-sized = sized (boardIn w) is-sound
+
+  pub closed-lent : length w ≡ 5829 → (n : ℕ) → n ≡ suc (total (jobsOf (heldJobs (wordIn w)))) → Closed n (tableOf (lentTable w))
+  closed-lent len n en =
+      subst (λ (m : ℕ). Closed m (tableOf (lentTable w))) (sym en)
+      (subst (λ (l : List ℕ). Closed (suc (total (jobsOf (boardIn w .jobs)))) (tableOf l)) (sym (cells-lent w len)) (closed (boardIn w) is-sound))
+
+  -- a changed table leaves the jobs and their marks as they were
+  module _ (len : length w ≡ 5829) (t : List ℕ) where
+    front-kept : (k : ℕ) → k < 52 → wordIn (wordsWith w t) k ≡ wordIn w k
+    front-kept k h = with-word w len t k (omega arith)
+
+    pub jobs-kept : heldJobs (wordIn (wordsWith w t)) ≡ heldJobs (wordIn w)
+    jobs-kept = same-jobs (wordIn (wordsWith w t)) (wordIn w) front-kept
+
+    pub marks-kept : allMarked (wordIn (wordsWith w t)) ≡ true
+    marks-kept = same-marks (wordIn (wordsWith w t)) (wordIn w) front-kept ∙ marks
+
+    pub clocked-kept :
+        (c : ℕ) (f : List Job → List Job) (x : List ℕ)
+        → x ≡ fronted (wordsWith w t) c (jobsFrom (f (jobsOf (heldJobs (wordIn (wordsWith w t))))))
+        → x ≡ fronted (wordsWith w t) c (jobsFrom (f (jobsOf (heldJobs (wordIn w)))))
+    clocked-kept c f x e = e ∙ ap (λ (j : Jobs). fronted (wordsWith w t) c (jobsFrom (f (jobsOf j)))) jobs-kept
+
+    pub fronted-kept :
+        (f : List Job → List Job) (x : List ℕ)
+        → x ≡ fronted (wordsWith w t) (wordIn (wordsWith w t) 2) (jobsFrom (f (jobsOf (heldJobs (wordIn (wordsWith w t))))))
+        → x ≡ fronted (wordsWith w t) (wordIn w 2) (jobsFrom (f (jobsOf (heldJobs (wordIn w)))))
+    fronted-kept f x e =
+        clocked-kept (wordIn w 2) f x
+        (e ∙ ap (λ (c : ℕ). fronted (wordsWith w t) c (jobsFrom (f (jobsOf (heldJobs (wordIn (wordsWith w t))))))) (front-kept 2 (omega arith)))
 
   module _
       (len : length w ≡ 5829) (t : List ℕ) (c : ℕ) (jobs : Jobs) (x : List ℕ)

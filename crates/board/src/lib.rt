@@ -1,12 +1,9 @@
-// What the board's calls have in common: the definitions of their answers, and of the words that they leave; what more than one of them does; the
-// laws of a sound board that their proofs share. A fresh board comes by value. The calls themselves stand in planning and dispatch.
+// What the board's calls have in common: the definitions of their answers, and of the words that they leave, and the laws of a sound board that
+// their proofs share. A fresh board comes by value. The calls themselves stand in planning and dispatch.
 // It may use the parts of the board, and the definitions of the readers and of the rule book; its code reads no plant file and no offer.
-mod parts; // what the calls share
 mod starting; // a fresh board
 
 use boardwords::Board;
-pub use parts::live_count;
-pub use parts::put_front;
 use rulings::Ruling;
 pub use starting::fresh;
 

@@ -1,5 +1,5 @@
 -- Words that were written and are read again.
---   same-use     a use with these three numbers
+--   same-job, same-use   a job with these two numbers and this mark, a use with these three numbers
 --   written-count, written-line   the words that hold the counts
 --   lines-word, lines-back   a word of the lines, and the lines
 --   board-back   the board of the words of a board, with arrays of their lengths and counts below 2^32, is that board
@@ -23,7 +23,7 @@ use Rattle.boardwords.proofs.Blocks.{joined-at}
 use Rattle.boardwords.proofs.Put.{length-line, length-jobs, length-frame}
 use Rattle.boardwords.proofs.Inverse.{counted-is, mark-small, mark-is, marks-hold}
 
-same-job : (j : Job) {p q : ℕ} {s : Bool} → p ≡ j .points → q ≡ j .batch → s ≡ j .sent → record { points = p; batch = q; sent = s } ≡ j
+pub same-job : (j : Job) {p q : ℕ} {s : Bool} → p ≡ j .points → q ≡ j .batch → s ≡ j .sent → record { points = p; batch = q; sent = s } ≡ j
 same-job j a b c = rw (a, b, c)
 
 pub same-use : (u : Use) {p q r : ℕ} → p ≡ u .point → q ≡ u .offset → r ≡ u .length → record { point = p; offset = q; length = r } ≡ u

@@ -1,6 +1,6 @@
 -- Words that were read and are written again.
 --   counted-is, counted-small, mark-is, marks-hold   counts that fit a word, marks of 0 and 1
---   uses-read, lines-read   the words of uses, of lines, that were read
+--   uses-read, jobs-read, lines-read   the words of uses, of jobs, of lines, that were read
 --   words-back   the words of the board of a list of 5,829 words, each below 2^32 and the marks 0 or 1, are that list
 -- Words of a C caller are below 2^32 by their type. Of a mark that is neither 0 nor 1, `unmarked` (crates/sound) says that the board is not
 -- sound: every call refuses it, and no word is written.
@@ -89,7 +89,7 @@ module _ (w : Words) where
       (λ k h. ap useWords (build-at (useAt w p) 32 k noUse h) ∙ block p k)
       ∙ joined-blocks (λ j. w (p + j)) 3 32
 
-  jobs-read : ((k : ℕ) → k < 16 → w (6 + 3 * k) ≤ 1) → jobsWords (jobsRead w) ≡ build (λ j. w (4 + j)) 48
+  pub jobs-read : ((k : ℕ) → k < 16 → w (6 + 3 * k) ≤ 1) → jobsWords (jobsRead w) ≡ build (λ j. w (4 + j)) 48
   jobs-read marks =
       joined-same (λ k. jobWords (getD (jobsRead w) k noJob)) (λ k. build (λ i. w (4 + (3 * k + i))) 3) 16
       (λ k h. ap jobWords (build-at (jobAt w) 16 k noJob h) ∙ three refl refl (mark-back (w (4 + 3 * k + 2)) (small k h)) ∙ block 4 k)

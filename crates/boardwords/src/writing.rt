@@ -40,7 +40,7 @@ fn put_three(w: &mut [u32], at: usize, a: u32, b: u32, c: u32)
 }
 
 // The first four words.
-pub fn put_head(w: &mut [u32], horizon: u32, lead: u32, clock: u32, count: usize)
+fn put_head(w: &mut [u32], horizon: u32, lead: u32, clock: u32, count: usize)
     requires { ⌜ 1604 ≤ length (now w) ⌝ }
     ensures { λ _. ⌜ now (w .exit) ≡ put (now (w .entry)) 0 (horizon ∷ lead ∷ clock ∷ counted count ∷ []) ⌝ }
 {
@@ -50,14 +50,14 @@ pub fn put_head(w: &mut [u32], horizon: u32, lead: u32, clock: u32, count: usize
     w[3] = counted(count);
 }
 
-fn put_job(w: &mut [u32], at: usize, job: Job)
+pub fn put_job(w: &mut [u32], at: usize, job: Job)
     requires { ⌜ at + 3 ≤ length (now w) ⌝ }
     ensures { λ _. ⌜ now (w .exit) ≡ put (now (w .entry)) at (jobWords job) ⌝ }
 {
     put_three(w, at, job.points, job.batch, mark(job.sent));
 }
 
-pub fn put_jobs(w: &mut [u32], jobs: Jobs)
+fn put_jobs(w: &mut [u32], jobs: Jobs)
     requires { ⌜ 1604 ≤ length (now w) ⌝ }
     ensures { λ _. ⌜ now (w .exit) ≡ put (now (w .entry)) 4 (jobsWords (jobs .jobs)) ⌝ }
 {

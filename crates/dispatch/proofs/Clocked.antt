@@ -2,7 +2,7 @@
 --   starts-usable    the clock's rules name live points, and their numbers keep sums within 32 bits
 --   rules-are, rules-few, rules-usable   the rules that the code collects, on a sound board with a clock in range
 --   unsound, back, past, none-left, moved   the answer, case by case
---   start-fits, start-words, clocked-words   the same of jobs read from words, and the words after the call (StartWords, ClockedWords)
+--   start-fits, start-words, clocked-words   the same in words, and the words after the call
 use Prim.Native.Nat.{ℕ, suc, _+_, _≤_, _<_}
 use native.Mathlib.Omega.{arith}
 use mathlib.Core.Path.{_≡_, refl, sym, ap, ap₂, subst, _∙_}
@@ -31,7 +31,8 @@ use Rattle.boardwords.specs.Words.{wordIn, heldJobs, boardIn, linesRead}
 use Rattle.boardwords.specs.Codec.{linesWords, put}
 use Rattle.boardwords.proofs.Lent.{lentTable, wordsWith, cells-lent, unwritten}
 use Rattle.board.specs.Calls.{refusal, settled, clocked}
-use Rattle.board.specs.InWords.{wordsAfter, fronted}
+use Rattle.board.specs.InWords.{wordsAfter}
+use Rattle.jobwords.specs.Fronted.{fronted}
 use Rattle.board.proofs.InWords.{is-sound, horizon-is, lines-kept, assembled, answered, unanswered}
 
 -- ---- the rules
@@ -131,8 +132,7 @@ module _ (b : Board) (c : ℕ) where
 -- ---- in words
 
 module _
-    (w : List ℕ) (len : length w ≡ 5829) (e : sound (boardIn w) ≡ true) (jobs : Jobs) (ej : jobs ≡ heldJobs (wordIn w)) (c : ℕ)
-    (later : wordIn w 2 ≤ c) (within : c ≤ wordIn w 0)
+    (w : List ℕ) (len : length w ≡ 5829) (e : sound (boardIn w) ≡ true) (c : ℕ) (later : wordIn w 2 ≤ c) (within : c ≤ wordIn w 0)
   where
     by-horizon : c ≤ boardIn w .horizon
     by-horizon = omega (arith, horizon-is w e)
@@ -140,32 +140,27 @@ module _
     pub start-fits : c + wordIn w 1 ≤ 101000000
     start-fits = let s = is-sound w e in omega (arith, by-horizon, s .horizon .1, s .lead)
 
-    -- of jobs `old` in place of those read: the rules, the words after a clock that leaves no timetable, and those after one that does
-    abbrev pub StartWords : Jobs → Type 0
-    StartWords old =
-        (rules : Rules) → rules ≡ rulesFrom (starts (c + wordIn w 1) 1 (jobsOf old))
-        → (rules .count ≤ 82) × ((n : ℕ) → n ≡ suc (total (jobsOf old)) → AllUsable n (rulesOf rules))
-
-    abbrev pub ClockedWords : Jobs → Type 0
-    ClockedWords old =
-        (rules : Rules) (n : ℕ) (ok : Bool) (t : List ℕ) → rules ≡ rulesFrom (starts (c + wordIn w 1) 1 (jobsOf old)) → n ≡ suc (total (jobsOf old))
-        → outcome ok t ≡ addedAll (rulesOf rules) n (lentTable w)
-        → (ok ≡ false → t ≡ lentTable w → (Refused (plain 20) ≡ clocked (boardIn w) c .ruling) × (wordsWith w t ≡ wordsAfter w (clocked (boardIn w) c)))
-        × ((new : Jobs) (x z : List ℕ) → ok ≡ true → new ≡ jobsFrom (jobsOf old) → length (wordsWith w t) ≡ 5829 → x ≡ fronted (wordsWith w t) c new
-        → z ≡ put x 52 (linesWords (linesFrom (linesOf (linesRead (wordIn x)))))
-        → (Accepted ≡ clocked (boardIn w) c .ruling) × (z ≡ wordsAfter w (clocked (boardIn w) c)))
-
-    starts-read : StartWords (boardIn w .jobs)
-    starts-read rules er =
+    pub start-words :
+        (rules : Rules) → rules ≡ rulesFrom (starts (c + wordIn w 1) 1 (jobsOf (heldJobs (wordIn w))))
+        → (rules .count ≤ 82) × ((n : ℕ) → n ≡ suc (total (jobsOf (heldJobs (wordIn w)))) → AllUsable n (rulesOf rules))
+    start-words rules er =
         let b = boardIn w in
         (rules-few b (is-sound w e) c by-horizon rules er, λ n en. subst (λ (m : ℕ). AllUsable m (rulesOf rules)) (sym en) (rules-usable b (is-sound w e) c by-horizon rules er))
 
-    clocked-read : ClockedWords (boardIn w .jobs)
-    clocked-read rules n ok t er en eo = (
+    -- the words after a clock that leaves no timetable, and those after one that does
+    pub clocked-words :
+        (rules : Rules) (n : ℕ) (ok : Bool) (t : List ℕ) → rules ≡ rulesFrom (starts (c + wordIn w 1) 1 (jobsOf (heldJobs (wordIn w))))
+        → n ≡ suc (total (jobsOf (heldJobs (wordIn w)))) → outcome ok t ≡ addedAll (rulesOf rules) n (lentTable w)
+        → (ok ≡ false → t ≡ lentTable w → (Refused (plain 20) ≡ clocked (boardIn w) c .ruling) × (wordsWith w t ≡ wordsAfter w (clocked (boardIn w) c)))
+        × ((x z : List ℕ) → ok ≡ true → length (wordsWith w t) ≡ 5829 → x ≡ fronted (wordsWith w t) c (jobsFrom (jobsOf (heldJobs (wordIn w))))
+        → z ≡ put x 52 (linesWords (linesFrom (linesOf (linesRead (wordIn x)))))
+        → (Accepted ≡ clocked (boardIn w) c .ruling) × (z ≡ wordsAfter w (clocked (boardIn w) c)))
+    clocked-words rules n ok t er en eo = (
       (λ no same. let r = unanswered w (clocked b c) b (plain 20) (none-left b c e later by-horizon (rulesOf rules) n ok t are en tried no) in
           (r .0, unwritten w len t same ∙ r .1)),
-      (λ new x z yes enew size ex ez.
-          answered w z (clocked b c) _ (moved b c e later by-horizon (rulesOf rules) n ok t are en tried new (linesFrom (linesOf (b .lines))) yes enew refl)
+      (λ x z yes size ex ez.
+          let new = jobsFrom (jobsOf (heldJobs (wordIn w))) in
+          answered w z (clocked b c) _ (moved b c e later by-horizon (rulesOf rules) n ok t are en tried new (linesFrom (linesOf (b .lines))) yes refl refl)
           (assembled w e len t c new x ex size (linesFrom (linesOf (b .lines))) z
           (ez ∙ ap (λ (ls : List Line). put x 52 (linesWords (linesFrom (linesOf ls)))) (lines-kept w e len t c new x ex)))),
     )
@@ -178,9 +173,3 @@ module _
 
         tried : outcome ok t ≡ addedAll (rulesOf rules) n (boardIn w .gaps)
         tried = eo ∙ ap (addedAll (rulesOf rules) n) (cells-lent w len)
-
-    pub start-words : StartWords jobs
-    start-words = subst StartWords (sym ej) starts-read
-
-    pub clocked-words : ClockedWords jobs
-    clocked-words = subst ClockedWords (sym ej) clocked-read

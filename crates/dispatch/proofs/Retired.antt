@@ -5,7 +5,7 @@
 --   some, few             it has points, and all of them are live
 --   in-reach              the test that it is over by c, no later than the horizon, reads the table within its bounds
 --   late, retired-is      the answer where it is not over, and where it is
---   leaving-words, retired-words, unsent-words   the same of jobs read from words, and the words after the call (Leaving, RetiredWords)
+--   leaving-words, retired-words, unsent-words   the same in words, and the words after the call
 use mathlib.Core.Path.{_≡_, refl, sym, ap, subst, _∙_}
 use mathlib.Core.Bool.{Bool, true, false}
 use mathlib.Core.List.{List, [], _∷_, map}
@@ -29,12 +29,13 @@ use Rattle.boardwords.specs.declared.Board.{Board}
 use Rattle.sound.specs.Sound.{SizedJob, Sound, sound}
 use Rattle.board.specs.Boards.{stateOf}
 use Rattle.lines.specs.Asked.{Lined}
-use Rattle.boardwords.specs.Words.{wordIn, heldJobs, jobAt, cellAt, cellsRead, boardIn, linesRead}
+use Rattle.boardwords.specs.Words.{wordIn, heldJobs, jobRead, jobAt, cellAt, cellsRead, boardIn, linesRead}
 use Rattle.boardwords.specs.Codec.{linesWords, put}
-use Rattle.lists.proofs.Build.{build-length}
+use Rattle.lists.proofs.Build.{build-length, build-at}
 use Rattle.boardwords.proofs.Lent.{lentTable, wordsWith, cells-lent}
 use Rattle.board.specs.Calls.{refusal, left, retired}
-use Rattle.board.specs.InWords.{wordsAfter, fronted}
+use Rattle.board.specs.InWords.{wordsAfter}
+use Rattle.jobwords.specs.Fronted.{fronted}
 use Rattle.board.proofs.OnSound.{closed, lined}
 use Rattle.board.proofs.InWords.{lines-many, is-sound, lines-kept, assembled, answered, unanswered}
 
@@ -125,65 +126,49 @@ module _ (b : Board) where
 
 -- ---- in words
 
-module _
-    (w : List ℕ) (len : length w ≡ 5829) (e : sound (boardIn w) ≡ true) (jobs : Jobs) (ej : jobs ≡ heldJobs (wordIn w)) (there : 1 ≤ jobs .count)
-  where
-    -- of jobs `old` in place of those read: what the test and the dropping of the oldest job's points ask
-    abbrev pub Leaving : Jobs → Type 0
-    Leaving old =
-        let m = getD (old .jobs) 0 noJob .points in
-        InReach (cellsRead (wordIn w)) (wordIn w 2) 1 m × (1 ≤ m) × Lined (linesRead (wordIn w)) × (1 + m ≤ suc (total (jobsOf old)))
+module _ (w : List ℕ) (len : length w ≡ 5829) (e : sound (boardIn w) ≡ true) (there : 1 ≤ wordIn w 3) (j : Job) (ej : j ≡ jobRead (wordIn w) 4) where
+  first : jobsOf (boardIn w .jobs) ≡ j ∷ drop 1 (jobsOf (boardIn w .jobs))
+  first =
+      oldest-first (boardIn w) there (omega (arith, is-sound w e .jobs, build-length (jobAt (wordIn w)) 16))
+      ∙ ap (λ (x : Job). x ∷ drop 1 (jobsOf (boardIn w .jobs))) (build-at (jobAt (wordIn w)) 16 0 noJob (omega arith) ∙ sym ej)
 
-    -- the words after the call, where the oldest job is not over, and where it is
-    abbrev pub RetiredWords : Jobs → Type 0
-    RetiredWords old =
-        let m = getD (old .jobs) 0 noJob .points in
-        (ok : Bool) → getD (old .jobs) 0 noJob .sent ≡ true
-        → ok ≡ implied (tableOf (cellsRead (wordIn w))) (notAfter (1 + m - 1) (wordIn w 2) ∷ allEndBy (wordIn w 2) 1 m (linesOf (linesRead (wordIn w))))
-        → (ok ≡ false → (Refused (plain 21) ≡ retired (boardIn w) .ruling) × (w ≡ wordsAfter w (retired (boardIn w))))
-        × ((new : Jobs) (n : ℕ) (t x z : List ℕ) → ok ≡ true → new ≡ jobsFrom (drop 1 (jobsOf old)) → n ≡ suc (total (jobsOf old))
-        → t ≡ dropped (lentTable w) 1 m n → length (wordsWith w t) ≡ 5829 → x ≡ fronted (wordsWith w t) (wordIn w 2) new
-        → z ≡ put x 52 (linesWords (linesFrom (map (staying 1 m) (linesOf (linesRead (wordIn x))))))
-        → (Accepted ≡ retired (boardIn w) .ruling) × (z ≡ wordsAfter w (retired (boardIn w))))
+  -- what the test and the dropping of the oldest job's points ask
+  pub leaving-words :
+      InReach (cellsRead (wordIn w)) (wordIn w 2) 1 (j .points) × (1 ≤ j .points) × Lined (linesRead (wordIn w))
+      × (1 + j .points ≤ suc (total (jobsOf (heldJobs (wordIn w)))))
+  leaving-words =
+      let s = is-sound w e in (
+        in-reach (boardIn w) _ _ first s (wordIn w 2) (s .clock) (build-length (cellAt (wordIn w)) 4225),
+        some (boardIn w) _ _ first s,
+        lined (boardIn w) s (lines-many w),
+        few (boardIn w) _ _ first s,
+      )
 
-    first : jobsOf (boardIn w .jobs) ≡ getD (boardIn w .jobs .jobs) 0 noJob ∷ drop 1 (jobsOf (boardIn w .jobs))
-    first =
-        oldest-first (boardIn w) (subst (λ (j : Jobs). 1 ≤ j .count) ej there)
-        (omega (arith, is-sound w e .jobs, build-length (jobAt (wordIn w)) 16))
+  -- the words after the call, where the oldest job is not over, and where it is
+  pub retired-words :
+      (ok : Bool) → j .sent ≡ true
+      → ok ≡ implied (tableOf (cellsRead (wordIn w))) (notAfter (1 + j .points - 1) (wordIn w 2) ∷ allEndBy (wordIn w 2) 1 (j .points) (linesOf (linesRead (wordIn w))))
+      → (ok ≡ false → (Refused (plain 21) ≡ retired (boardIn w) .ruling) × (w ≡ wordsAfter w (retired (boardIn w))))
+      × ((n : ℕ) (t x z : List ℕ) → ok ≡ true → n ≡ suc (total (jobsOf (heldJobs (wordIn w))))
+      → t ≡ dropped (lentTable w) 1 (j .points) n → length (wordsWith w t) ≡ 5829
+      → x ≡ fronted (wordsWith w t) (wordIn w 2) (jobsFrom (drop 1 (jobsOf (heldJobs (wordIn w)))))
+      → z ≡ put x 52 (linesWords (linesFrom (map (staying 1 (j .points)) (linesOf (linesRead (wordIn x))))))
+      → (Accepted ≡ retired (boardIn w) .ruling) × (z ≡ wordsAfter w (retired (boardIn w))))
+  retired-words ok was is = (
+    (λ no. unanswered w (retired b) b (plain 21) (late b _ _ first e was ok is no)),
+    (λ n t x z yes en et size ex ez.
+        let new = jobsFrom (drop 1 (jobsOf (heldJobs (wordIn w)))) in
+        let ls = linesFrom (map (staying 1 m) (linesOf (b .lines))) in
+        answered w z (retired b) _ (retired-is b _ _ first e was ok is yes new ls t n refl refl en (et ∙ ap (λ (l : List ℕ). dropped l 1 m n) (cells-lent w len)))
+        (assembled w e len t (wordIn w 2) new x ex size ls z
+        (ez ∙ ap (λ (l : List Line). put x 52 (linesWords (linesFrom (map (staying 1 m) (linesOf l))))) (lines-kept w e len t (wordIn w 2) new x ex)))),
+  )
+    where
+      b : Board
+      b = boardIn w
 
-    leaving-read : Leaving (boardIn w .jobs)
-    leaving-read =
-        let s = is-sound w e in (
-          in-reach (boardIn w) _ _ first s (wordIn w 2) (s .clock) (build-length (cellAt (wordIn w)) 4225),
-          some (boardIn w) _ _ first s,
-          lined (boardIn w) s (lines-many w),
-          few (boardIn w) _ _ first s,
-        )
+      m : ℕ
+      m = j .points
 
-    retired-read : RetiredWords (boardIn w .jobs)
-    retired-read ok was is = (
-      (λ no. unanswered w (retired b) b (plain 21) (late b _ _ first e was ok is no)),
-      (λ new n t x z yes enew en et size ex ez.
-          let ls = linesFrom (map (staying 1 m) (linesOf (b .lines))) in
-          answered w z (retired b) _ (retired-is b _ _ first e was ok is yes new ls t n enew refl en (et ∙ ap (λ (l : List ℕ). dropped l 1 m n) (cells-lent w len)))
-          (assembled w e len t (wordIn w 2) new x ex size ls z
-          (ez ∙ ap (λ (l : List Line). put x 52 (linesWords (linesFrom (map (staying 1 m) (linesOf l))))) (lines-kept w e len t (wordIn w 2) new x ex)))),
-    )
-      where
-        b : Board
-        b = boardIn w
-
-        m : ℕ
-        m = getD (boardIn w .jobs .jobs) 0 noJob .points
-
-    pub leaving-words : Leaving jobs
-    leaving-words = subst Leaving (sym ej) leaving-read
-
-    pub retired-words : RetiredWords jobs
-    retired-words = subst RetiredWords (sym ej) retired-read
-
-    pub unsent-words :
-        getD (jobs .jobs) 0 noJob .sent ≡ false → (Refused (plain 21) ≡ retired (boardIn w) .ruling) × (w ≡ wordsAfter w (retired (boardIn w)))
-    unsent-words u =
-        unanswered w (retired (boardIn w)) (boardIn w) (plain 21)
-        (unsent (boardIn w) _ _ first e (subst (λ (j : Jobs). getD (j .jobs) 0 noJob .sent ≡ false) ej u))
+  pub unsent-words : j .sent ≡ false → (Refused (plain 21) ≡ retired (boardIn w) .ruling) × (w ≡ wordsAfter w (retired (boardIn w)))
+  unsent-words u = unanswered w (retired (boardIn w)) (boardIn w) (plain 21) (unsent (boardIn w) _ _ first e u)

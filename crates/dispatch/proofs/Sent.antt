@@ -1,11 +1,11 @@
 -- Laws of send's call. Assumes nothing.
 --   within            an unsent job's place is one of the list
 --   unsound, absent, sent-is   the answer, case by case
---   unsent-place, sent-words, accepted   the same of jobs read from words, and the words after the call (SentWords)
+--   unsent-place, sent-words, accepted   the same in words, and the words after the call
 use Prim.Native.Nat.{ℕ, zero, suc, _+_, _≤_, _<_}
 use native.Mathlib.Omega.{arith}
 use native.Mathlib.Numerals.{add-one}
-use mathlib.Core.Path.{_≡_, refl, sym, ap, ap₂, subst, _∙_}
+use mathlib.Core.Path.{_≡_, refl, ap, ap₂, _∙_}
 use mathlib.Core.Bool.{true, false, false≢true}
 use mathlib.Core.List.{List, [], _∷_}
 use lib.ListN.{length, length-take}
@@ -24,7 +24,7 @@ use Rattle.boardwords.specs.Codec.{wordsOf, linesWords, put}
 use Rattle.boardwords.proofs.Lent.{lentTable, wordsWith, cells-lent}
 use Rattle.board.specs.declared.Ruled.{Ruled}
 use Rattle.board.specs.Calls.{refusal, sendRules, sent}
-use Rattle.board.specs.InWords.{fronted}
+use Rattle.jobwords.specs.Fronted.{fronted}
 use Rattle.board.proofs.InWords.{lines-kept, assembled}
 
 unsent-within : (js : List Job) (k : ℕ) → unsentAt k js ≡ true → k < length js
@@ -68,31 +68,26 @@ module _ (b : Board) (place : ℕ) where
 
 -- ---- in words
 
-module _ (w : List ℕ) (len : length w ≡ 5829) (e : sound (boardIn w) ≡ true) (jobs : Jobs) (ej : jobs ≡ heldJobs (wordIn w)) (place : ℕ) where
-  pub unsent-place : unsentAt place (jobsOf jobs) ≡ true → place + 1 ≤ jobs .count
-  unsent-place u = subst (λ (j : Jobs). unsentAt place (jobsOf j) ≡ true → place + 1 ≤ j .count) (sym ej) (within (boardIn w) place) u
+module _ (w : List ℕ) (len : length w ≡ 5829) (e : sound (boardIn w) ≡ true) (place : ℕ) (u : unsentAt place (jobsOf (heldJobs (wordIn w))) ≡ true) where
+  pub unsent-place : place + 1 ≤ wordIn w 3
+  unsent-place = within (boardIn w) place u
 
-  -- the words after the call, of jobs `old` in place of those read
-  abbrev pub SentWords : Jobs → Type 0
-  SentWords old =
-      (new : Jobs) (n : ℕ) (t x z : List ℕ) → unsentAt place (jobsOf old) ≡ true → new ≡ jobsFrom (marked (place + 1) (jobsOf old))
-      → n ≡ suc (total (jobsOf old)) → t ≡ frozen n (unsentPoints 1 (place + 1) (jobsOf old)) (lentTable w) → length (wordsWith w t) ≡ 5829
-      → x ≡ fronted (wordsWith w t) (wordIn w 2) new → z ≡ put x 52 (linesWords (linesFrom (linesOf (linesRead (wordIn x)))))
+  pub sent-words :
+      (n : ℕ) (t x z : List ℕ) → n ≡ suc (total (jobsOf (heldJobs (wordIn w))))
+      → t ≡ frozen n (unsentPoints 1 (place + 1) (jobsOf (heldJobs (wordIn w)))) (lentTable w) → length (wordsWith w t) ≡ 5829
+      → x ≡ fronted (wordsWith w t) (wordIn w 2) (jobsFrom (marked (place + 1) (jobsOf (heldJobs (wordIn w)))))
+      → z ≡ put x 52 (linesWords (linesFrom (linesOf (linesRead (wordIn x)))))
       → z ≡ wordsOf (sent (boardIn w) place .board)
-
-  of-read : SentWords (boardIn w .jobs)
-  of-read new n t x z u enew en et size ex ez =
+  sent-words n t x z en et size ex ez =
       let b = boardIn w in
+      let new = jobsFrom (marked (place + 1) (jobsOf (heldJobs (wordIn w)))) in
       let cells : t ≡ frozen n (unsentPoints 1 (place + 1) (jobsOf (b .jobs))) (b .gaps) =
       et ∙ ap (frozen n (unsentPoints 1 (place + 1) (jobsOf (b .jobs)))) (cells-lent w len) in
       let same = lines-kept w e len t (wordIn w 2) new x ex in
       assembled w e len t (wordIn w 2) new x ex size (linesFrom (linesOf (b .lines))) z
       (ez ∙ ap (λ (ls : List Line). put x 52 (linesWords (linesFrom (linesOf ls)))) same)
-      ∙ ap (λ (r : Ruled). wordsOf (r .board)) (sent-is b place e u new (linesFrom (linesOf (b .lines))) t n enew refl en cells)
+      ∙ ap (λ (r : Ruled). wordsOf (r .board)) (sent-is b place e u new (linesFrom (linesOf (b .lines))) t n refl refl en cells)
 
-  pub sent-words : SentWords jobs
-  sent-words = subst SentWords (sym ej) of-read
-
-  pub accepted : unsentAt place (jobsOf jobs) ≡ true → sent (boardIn w) place .ruling ≡ Accepted
+  pub accepted : sent (boardIn w) place .ruling ≡ Accepted
   unfolding sent
-  accepted u = let v : unsentAt place (jobsOf (boardIn w .jobs)) ≡ true = subst (λ (j : Jobs). unsentAt place (jobsOf j) ≡ true) ej u in rw (e, v)
+  accepted = rw (e, u)

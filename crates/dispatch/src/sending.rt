@@ -1,15 +1,13 @@
 // Sends jobs: their points are set to their earliest times.
-use board::live_count;
-use board::put_front;
 use boardwords::read_job;
 use boardwords::read_jobs;
-use lines::Jobs;
-use lines::mark_sent;
+use jobwords::mark_sent;
 use linewords::tidy_lines;
 use rulings::Cause;
 use rulings::Ruling;
 use settling::freeze;
 use sound::is_sound_in;
+use sound::points_in;
 ghost use mathlib.Core.Path.{_≡_};
 ghost use mathlib.Core.Bool.{true};
 ghost use Prim.Native.Nat.{_≤_};
@@ -35,15 +33,16 @@ fn is_unsent(w: &[u32], k: usize) -> bool
 }
 
 // The unsent jobs up to the place are sent, on a sound board that has an unsent one there.
-fn send_up_to(w: &mut [u32], jobs: Jobs, place: usize)
+fn send_up_to(w: &mut [u32], place: usize)
     requires { ⌜ length (now w) ≡ 5829 ⌝ }
-    requires { ⌜ (sound (boardIn (now w)) ≡ true) × (jobs ≡ heldJobs (wordIn (now w))) × (unsentAt place (jobsOf jobs) ≡ true) ⌝ }
+    requires { ⌜ (sound (boardIn (now w)) ≡ true) × (unsentAt place (jobsOf (heldJobs (wordIn (now w)))) ≡ true) ⌝ }
     ensures { λ _. ⌜ now (w .exit) ≡ wordsOf (sent (boardIn (now (w .entry))) place .board) ⌝ }
 {
-    let clock = w[2];
     let count = place + 1;
-    freeze(&mut w[1604..], live_count(jobs), jobs, count);
-    put_front(w, clock, mark_sent(jobs, count));
+    let n = points_in(w) as usize + 1;
+    let jobs = read_jobs(w);
+    freeze(&mut w[1604..], n, jobs, count);
+    mark_sent(w, count);
     tidy_lines(w);
 }
 
@@ -59,7 +58,6 @@ pub fn send_in(w: &mut [u32], place: u32) -> Ruling
     if !is_unsent(w, place as usize) {
         return Ruling::Refused(Cause::Plain(18));
     }
-    let jobs = read_jobs(w);
-    send_up_to(w, jobs, place as usize);
+    send_up_to(w, place as usize);
     Ruling::Accepted
 }

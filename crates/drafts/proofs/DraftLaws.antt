@@ -16,10 +16,8 @@ use Rattle.rulings.specs.declared.Cause.{Cause}
 use Rattle.rulings.specs.declared.Ruling.{Ruling}
 use Rattle.rulings.specs.declared.Ruling.the-variants.{Accepted, Refused}
 use Rattle.plain.specs.Plain.{State, Offer, Placed, Draft, liveCount, notBefore, durations, inserted, ruleBefore, ruleAfter, usedFrom, placed, batchDistance, batchRules, full, pointsOf, jobFrom, joining, drafted}
-use Rattle.lines.specs.Held.{linesFrom, rulesOf, rulesFrom, jobsFrom, answered}
+use Rattle.lines.specs.Held.{linesFrom, rulesOf, rulesFrom, answered}
 use Rattle.lines.specs.Asked.{Room}
-use Rattle.plain.specs.declared.Job.{Job}
-use Rattle.lines.specs.declared.Jobs.{Jobs}
 use Rattle.plain.specs.declared.Use.{Use}
 use Rattle.lines.specs.declared.Line.{Line}
 use Rattle.plain.specs.declared.Put.{Put}
@@ -140,17 +138,13 @@ module _
 
   -- the parts of the answer are those of the plain machine
   pub drafted-made :
-      (lines : List Line) (J : Jobs) (R : Rules) → ruling ≡ Accepted → lines ≡ linesFrom ls
-      → J ≡ jobsFrom (s .jobs ++ (record { points = n + 1; batch = o .batch; sent = false } ∷ []))
+      (lines : List Line) (R : Rules) → ruling ≡ Accepted → lines ≡ linesFrom ls
       → R ≡ rulesFrom (rulesOf made ++ batchRules (batchDistance s) (o .batch) (x + n) (s .jobs))
-      → DraftedAs (record { ruling = Accepted; jobs = J; rules = R }) lines (drafted s o)
+      → DraftedAs (record { ruling = Accepted; rules = R }) lines (drafted s o)
   unfolding DraftedAs
-  drafted-made lines J R accepted tidy eJ eR =
-      let job : ℕ → Job = λ m. record { points = m; batch = o .batch; sent = false } in
-      let points : n + 1 ≡ pointsOf o = omega arith in
-      subst (DraftedAs (record { ruling = Accepted; jobs = J; rules = R }) lines) (sym (drafted-go accepted)) (
+  drafted-made lines R accepted tidy eR =
+      subst (DraftedAs (record { ruling = Accepted; rules = R }) lines) (sym (drafted-go accepted)) (
         refl,
-        eJ ∙ ap (λ (m : ℕ). jobsFrom (s .jobs ++ (job m ∷ []))) points,
         tidy,
         eR
             ∙ ap (λ (i : ℕ). rulesFrom (rulesOf made ++ batchRules 0 (o .batch) (i + n) (s .jobs))) first

@@ -2,7 +2,6 @@
 --   length-padded       an array has as many places as it has
 --   padded-none         nothing held: z everywhere
 --   padded-push         the next place stored: the list with one more at its end
---   padded-copy         the next of a list that is copied over
 --   padded-last         a z at the end is as good as none
 --   padded-one          the next place stored, with the one element that comes or with none
 --   take-padded         what is read back
@@ -11,7 +10,6 @@ use Prim.Native.Nat.{ℕ, zero, suc, _≤_, _<_}
 use mathlib.Core.Path.{_≡_, refl, sym, _∙_, ap}
 use mathlib.Core.List.{List, [], _∷_, _++_, append-nil}
 use lib.ListN.{length, getD, set, take, replicate}
-use lib.Seq.{length-take-le, take-suc}
 use native.Mathlib.Omega.{arith}
 use Rattle.lines.specs.Padded.{padded}
 
@@ -32,14 +30,6 @@ module _ {A : Type 0} where
   padded-push zero z l a h = absurd (omega arith)
   padded-push (suc n) z [] a h = refl
   padded-push (suc n) z (b ∷ l) a h = ap (_∷_ b) (padded-push n z l a (omega arith))
-
-  pub padded-copy :
-      (n : ℕ) (z : A) (l : List A) (k : ℕ) → k < length l → k < n → set (padded n z (take k l)) k (getD l k z) ≡ padded n z (take (suc k) l)
-  padded-copy n z l k h hn =
-      let e : length (take k l) ≡ k = length-take-le k l (omega arith) in
-      ap (λ (i : ℕ). set (padded n z (take k l)) i (getD l k z)) (sym e)
-      ∙ padded-push n z (take k l) (getD l k z) (omega arith)
-      ∙ ap (padded n z) (sym (take-suc l k z h))
 
   pub padded-last : (n : ℕ) (z : A) (l : List A) → length l < n → padded n z l ≡ padded n z (l ++ (z ∷ []))
   unfolding padded

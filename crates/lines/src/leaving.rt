@@ -1,13 +1,10 @@
-// What stays of jobs and lines when points leave: the m points from f on.
+// What stays of a use when points leave: the m points from f on.
 ghost use mathlib.Core.Path.{_≡_};
 ghost use mathlib.Core.Bool.{false};
 ghost use mathlib.Core.List.{[], _∷_};
 ghost use Prim.Native.Nat.{_+_, _≤_};
-ghost use lib.ListN.{length, getD, drop};
+ghost use lib.ListN.{length, getD};
 ghost use Rattle.plain.specs.Plain.{noUse, goes, over, staying};
-ghost use Rattle.lines.specs.Held.{jobsOf, jobsFrom};
-use crate::Jobs;
-use crate::joblist::no_job;
 use plain::Use;
 
 // Whether point x is one of those that leave.
@@ -28,8 +25,6 @@ fn over(f: u32, m: u32, x: u32) -> u32
     }
     x - m
 }
-
-// ---- uses
 
 pub fn no_use() -> Use
     ensures { λ r. ⌜ r ≡ noUse ⌝ }
@@ -65,24 +60,4 @@ pub fn stay_use(u: Use, f: u32, m: u32) -> Use
         offset: u.offset,
         length: u.length,
     }
-}
-
-// ---- jobs
-
-// The jobs without the oldest.
-pub fn drop_oldest(jobs: Jobs) -> Jobs
-    requires { ⌜ (1 ≤ jobs .count) × (jobs .count ≤ 16) ⌝ }
-    ensures { λ r. ⌜ r ≡ jobsFrom (drop 1 (jobsOf jobs)) ⌝ }
-{
-    let none = no_job();
-    let left = jobs.count - 1;
-    let mut next = Jobs {
-        count: left,
-        jobs: [none; 16],
-    };
-    for k in 0..left {
-        let job = jobs.jobs[k + 1];
-        next.jobs[k] = job;
-    }
-    next
 }

@@ -1,17 +1,12 @@
-// Jobs, a use that stays or goes, and collected rules by value: the plain machine's code but for the lines, which are changed in words (crates
-// linewords and drafts).
+// The structs of jobs, lines, allocations and rules; rules collected, and a use that stays or goes, by value: the plain machine's code but for jobs
+// and lines, which are changed in words (crates jobwords, linewords and drafts).
 // It may use plain and rulings; it knows neither bytes nor a table.
 mod joblist; // the list of jobs
 mod leaving; // what stays when points leave
 mod rulelist; // the list of rules
 
-pub use joblist::add_job;
-pub use joblist::is_full;
-pub use joblist::mark_sent;
 pub use joblist::no_job;
 pub use joblist::points;
-pub use joblist::tidy_jobs;
-pub use leaving::drop_oldest;
 pub use leaving::goes;
 pub use leaving::no_use;
 pub use leaving::stay_count;
@@ -22,7 +17,6 @@ use plain::Step;
 use plain::Use;
 pub use rulelist::Maybe;
 pub use rulelist::Rules;
-pub use rulelist::add_batch;
 pub use rulelist::add_durations;
 pub use rulelist::end_of;
 pub use rulelist::in_order;
@@ -31,7 +25,6 @@ pub use rulelist::no_rules;
 pub use rulelist::not_before;
 pub use rulelist::one_rule;
 pub use rulelist::push;
-pub use rulelist::start_rules;
 
 // The jobs of a board, oldest first.
 pub struct Jobs {

@@ -1,14 +1,12 @@
-// The list of rules: the rules that plan and clock make, each put behind those that are there.
+// The list of rules: how rules are put behind those that are there, and the rules (b), (c) and (d). Those that the jobs under way make stand in
+// the crate jobwords.
 ghost use mathlib.Core.Path.{_≡_};
 ghost use mathlib.Core.List.{[], _∷_, _++_};
-ghost use mathlib.Core.Bool.{cond};
-ghost use Prim.Native.Nat.{ℕ, _≤_};
-ghost use lib.Dec.{eqb};
+ghost use Prim.Native.Nat.{_≤_};
 ghost use lib.ListN.{getD};
-ghost use Rattle.plain.specs.Plain.{endOf, notBefore, inOrder, durations, afterNewest, batchRules, starts};
-ghost use Rattle.lines.specs.Held.{jobsOf, stepsOf, rulesOf, rulesFrom, maybeFrom, noRule, endRule};
-ghost use Rattle.lines.specs.Asked.{Sized, Short, Room};
-use crate::Jobs;
+ghost use Rattle.plain.specs.Plain.{endOf, notBefore, inOrder, durations};
+ghost use Rattle.lines.specs.Held.{stepsOf, rulesOf, rulesFrom, maybeFrom, noRule};
+ghost use Rattle.lines.specs.Asked.{Short, Room};
 use crate::Steps;
 use plain::Rule;
 use plain::Step;
@@ -144,106 +142,6 @@ pub fn add_durations(old: Rules, x: u32, steps: Steps) -> Rules
         rules.rules[n + 1] = most_rule(at, step);
         rules.count = n + 2;
         at += 1;
-    }
-    rules
-}
-
-// `end` where the batch is the one wanted, else 0.
-fn end_in(batch: u32, wanted: u32, end: u32) -> u32
-    ensures { λ r. ⌜ r ≡ cond (eqb batch wanted) end 0 ⌝ }
-{
-    if batch == wanted {
-        return end;
-    }
-    0
-}
-
-// `end`, or `found` where that is 0.
-fn or_else(end: u32, found: u32) -> u32
-    ensures { λ r. ⌜ r ≡ cond (eqb end 0) found end ⌝ }
-{
-    if end == 0 {
-        return found;
-    }
-    end
-}
-
-// One more than the last point of the newest job of a batch, 0 where there is none. The jobs are listed oldest first, so a later job's end
-// goes before what was found.
-fn newest_end(jobs: Jobs, batch: u32) -> u32
-    requires { ⌜ Sized jobs ⌝ }
-    ensures { λ r. ⌜ ((d last : ℕ) → endRule d last r ≡ afterNewest d batch last 1 (jobsOf jobs)) ⌝ }
-{
-    let mut x = 1;
-    let mut found = 0;
-    for k in 0..jobs.count {
-        let job = jobs.jobs[k];
-        x += job.points;
-        let end = end_in(job.batch, batch, x);
-        found = or_else(end, found);
-    }
-    found
-}
-
-// The rule (e), if there is one: `last` comes at least d after the last point of the newest job of the batch.
-fn batch_rule(d: u32, batch: u32, last: u32, jobs: Jobs) -> Maybe
-    requires { ⌜ Sized jobs ⌝ }
-    ensures { λ r. ⌜ r ≡ maybeFrom (batchRules d batch last (jobsOf jobs)) ⌝ }
-{
-    if batch == 0 {
-        return no_rule();
-    }
-    let end = newest_end(jobs, batch);
-    if end == 0 {
-        return no_rule();
-    }
-    one_rule(Rule {
-        early: end - 1,
-        more: d,
-        late: last,
-        slack: 0,
-    })
-}
-
-// The rules with the rule (e) behind them.
-pub fn add_batch(rules: Rules, d: u32, batch: u32, last: u32, jobs: Jobs) -> Rules
-    requires { ⌜ Room 1 rules × Sized jobs ⌝ }
-    ensures { λ r. ⌜ r ≡ rulesFrom (rulesOf rules ++ batchRules d batch last (jobsOf jobs)) ⌝ }
-{
-    let made = batch_rule(d, batch, last, jobs);
-    let rule = made.rule;
-    let mut next = rules;
-    let at = next.count;
-    next.rules[at] = rule;
-    next.count = at + made.count;
-    next
-}
-
-// The rule of the clock for a job whose first point is x. A sent job has none.
-fn start_rule(time: u32, x: u32, sent: bool) -> Maybe
-    ensures { λ r. ⌜ r ≡ maybeFrom (cond sent [] (notBefore x time ∷ [])) ⌝ }
-{
-    if sent {
-        return no_rule();
-    }
-    one_rule(not_before(x, time))
-}
-
-// The rules of the clock: each unsent job starts at `time` or later.
-pub fn start_rules(time: u32, jobs: Jobs) -> Rules
-    requires { ⌜ Sized jobs ⌝ }
-    ensures { λ r. ⌜ r ≡ rulesFrom (starts time 1 (jobsOf jobs)) ⌝ }
-{
-    let mut rules = no_rules();
-    let mut x = 1;
-    for k in 0..jobs.count {
-        let job = jobs.jobs[k];
-        let made = start_rule(time, x, job.sent);
-        let rule = made.rule;
-        let at = rules.count;
-        rules.rules[at] = rule;
-        rules.count = at + made.count;
-        x += job.points;
     }
     rules
 }

@@ -4,6 +4,7 @@ mod clearing; // 0 in places not in use
 mod copying; // lines copied from other words, or laid into words that hold 0
 mod thinning; // what stays when points leave
 
+pub use clearing::clear;
 pub use clearing::tidy_lines;
 pub use copying::copy_lines;
 pub use copying::lay_lines;

@@ -1,5 +1,5 @@
 // Jobs, uses and rules: what rule book and board are made of. The plain machine (specs/Plain) is definitions over these; its code is the
-// crate `lines`. It may use rulings alone: neither bytes nor a table.
+// crates lines, linewords, jobwords and drafts. It may use rulings alone: neither bytes nor a table.
 
 // A job: how many points it has (one more than steps), its batch (0 is none), and whether it was sent.
 pub struct Job {

@@ -1,5 +1,6 @@
 -- The rules that an offer makes on a sound board: they name the points to be, and their numbers keep sums within 32 bits. Assumes nothing.
---   Joins s o next m rs   what an accepted draft brings: as many points as the offer has, room for them, and usable rules, few enough
+--   Joins s o next m rs   what an accepted draft brings: as many points as the offer has, its job behind the others, room for them, and
+--                         usable rules, few enough
 --   DraftJoins s o q  a draft stops, or joins so;  drafted-joins shows it
 use mathlib.Core.Path.{_≡_, refl}
 use mathlib.Core.Bool.{Bool, true, false, cond}
@@ -121,6 +122,8 @@ pub record Joins (s : State) (o : Offer) (next : State) (m : ℕ) (rs : List Rul
   pub points : m ≡ pointsOf o
   pub room : liveCount s + m ≤ 65
   pub jobs : length (s .jobs) < 16
+  -- the offer's job stands behind the others
+  pub listed : next .jobs ≡ s .jobs ++ (jobFrom o ∷ [])
   pub usable : All (Usable (liveCount s + m)) rs
   -- 1 by (b), 16 by (c), 64 by (d) and 1 by (e)
   pub few : length rs ≤ 82
@@ -158,6 +161,7 @@ module _
           points = refl;
           room = omega (arith, ltb-false 64 (total (s .jobs) + pointsOf o) (roomy .1));
           jobs = few-jobs (roomy .0);
+          listed = refl;
           usable = (
             first,
             all-append (Usable n) (lasting ++ rs) ending

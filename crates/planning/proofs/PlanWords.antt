@@ -2,21 +2,20 @@
 --   few-lines       the lines of a sound board are small enough to be laid into other words
 --   laid-lines      laid there, they hold what the board's lines hold, and are Ready
 --   drafted-words   a draft on them is one on the board
---   PlanWords       what plan's answer is: 17, or the job joins;  plan-words shows it of jobs read from the words
+--   plan-words      what trying the rules and adding the job ask, and what plan's answer is: 17, or the job joins
 use Prim.Native.Nat.{ℕ, zero, suc, _+_, _<_, _≤_}
 use mathlib.Core.Path.{_≡_, refl, sym, _∙_, ap, ap₂, subst}
 use mathlib.Core.Bool.{Bool, true, false}
-use mathlib.Core.List.{List, [], _∷_}
+use mathlib.Core.List.{List, [], _∷_, _++_}
 use native.Mathlib.Omega.{arith}
 use lib.ListN.{length, getD, length-map, length-take}
 use Rattle.rulings.specs.declared.Ruling.the-variants.{Accepted, Refused}
 use Rattle.rulings.specs.Answer.{plain}
 use Rattle.plain.specs.declared.Use.{Use}
-use Rattle.plain.specs.Plain.{State, Offer, noUse, total, liveCount, drafted}
+use Rattle.plain.specs.Plain.{State, Offer, noUse, total, liveCount, jobFrom, drafted}
 use Rattle.lists.specs.Loops.{rewritten}
-use Rattle.lines.specs.declared.Jobs.{Jobs}
 use Rattle.lines.specs.declared.Line.{Line}
-use Rattle.lines.specs.Held.{jobsOf, lineOf, lineFrom, linesOf, linesFrom, rulesOf, noLine}
+use Rattle.lines.specs.Held.{jobsOf, jobsFrom, lineOf, lineFrom, linesOf, linesFrom, rulesOf, noLine}
 use Rattle.lines.specs.Held as Held
 use Rattle.lines.specs.Asked.{Lined, Ready}
 use Rattle.lines.proofs.Padded.{length-padded}
@@ -28,6 +27,7 @@ use Rattle.offered.specs.Sized.{SizedOffer}
 use Rattle.boardwords.specs.Words.{wordIn, heldJobs, lineAt, boardIn, linesRead}
 use Rattle.boardwords.specs.Codec.{linesWords, put}
 use Rattle.lists.proofs.Build.{build-length}
+use Rattle.boardwords.proofs.Boards.{held-jobs}
 use Rattle.boardwords.proofs.Lent.{lentTable, wordsWith, cells-lent, unwritten}
 use Rattle.linewords.proofs.Copied.{copied-put, written-lines}
 use Rattle.sound.specs.Sound.{sound}
@@ -36,9 +36,10 @@ use Rattle.drafts.specs.DraftedAs.{DraftedAs}
 use Rattle.drafts.proofs.PlaceLaws.{line-few}
 use Rattle.board.specs.Boards.{stateOf}
 use Rattle.board.specs.Calls.{decided}
-use Rattle.board.specs.InWords.{wordsAfter, fronted}
+use Rattle.board.specs.InWords.{wordsAfter}
+use Rattle.jobwords.specs.Fronted.{fronted}
 use Rattle.board.proofs.OnSound.{lined}
-use Rattle.board.proofs.InWords.{lines-many, is-sound, horizon-is, length-fronted, assembled, answered, unanswered}
+use Rattle.board.proofs.InWords.{lines-many, is-sound, horizon-is, jobs-sized, length-fronted, assembled, answered, unanswered}
 use Rattle.planning.proofs.Planned.{Going, going, asked, none-left, joined}
 
 -- ---- lines laid into arrays
@@ -75,11 +76,11 @@ module _ (w : List ℕ) (e : sound (boardIn w) ≡ true) where
       tidied-ready ls (linesRead (wordIn z)) lined-read many back
 
   pub drafted-words :
-      (jobs : Jobs) → jobs ≡ heldJobs (wordIn w) → (z : List ℕ) → linesOf (linesRead (wordIn z)) ≡ linesOf (boardIn w .lines) → (o : Offer) (r : Drafted) (after : List Line)
-      → DraftedAs r after (drafted (Held.stateOf jobs (linesRead (wordIn z)) (wordIn w 2) (boardIn w .horizon) (wordIn w 1)) o) → DraftedAs r after (drafted (stateOf (boardIn w)) o)
-  drafted-words jobs ej z el o r after =
-      let is : Held.stateOf jobs (linesRead (wordIn z)) (wordIn w 2) (boardIn w .horizon) (wordIn w 1) ≡ stateOf (boardIn w) =
-      ap₂ (λ (j : Jobs) (l : List (List Use)). record { jobs = jobsOf j; lines = l; clock = wordIn w 2; horizon = boardIn w .horizon; lead = wordIn w 1 }) ej el in
+      (z : List ℕ) → linesOf (linesRead (wordIn z)) ≡ linesOf (boardIn w .lines) → (o : Offer) (r : Drafted) (after : List Line)
+      → DraftedAs r after (drafted (Held.stateOf (heldJobs (wordIn w)) (linesRead (wordIn z)) (wordIn w 2) (boardIn w .horizon) (wordIn w 1)) o) → DraftedAs r after (drafted (stateOf (boardIn w)) o)
+  drafted-words z el o r after =
+      let is : Held.stateOf (heldJobs (wordIn w)) (linesRead (wordIn z)) (wordIn w 2) (boardIn w .horizon) (wordIn w 1) ≡ stateOf (boardIn w) =
+      ap (λ (l : List (List Use)). record { jobs = jobsOf (heldJobs (wordIn w)); lines = l; clock = wordIn w 2; horizon = boardIn w .horizon; lead = wordIn w 1 }) el in
       subst (λ (s : State). DraftedAs r after (drafted s o)) is
 
 -- ---- the answer
@@ -88,35 +89,36 @@ module _
     (w : List ℕ) (len : length w ≡ 5829) (e : sound (boardIn w) ≡ true) (o : Offer) (sized : SizedOffer o) (r : Drafted) (drawn : List Line)
     (d : DraftedAs r drawn (drafted (stateOf (boardIn w)) o)) (goes : r .ruling ≡ Accepted)
   where
-    -- of jobs `old` in place of those read: what trying the rules asks, the words where they do not agree, and where they do
-    abbrev pub PlanWords : Jobs → Type 0
-    PlanWords old =
-        (n m : ℕ) → n ≡ suc (total (jobsOf old)) → m ≡ suc (length (o .steps))
+    -- what trying the rules and adding the job ask, the words where the rules do not agree, and where they do
+    pub plan-words :
+        (n m : ℕ) → n ≡ suc (total (jobsOf (heldJobs (wordIn w)))) → m ≡ suc (length (o .steps))
         → ((0 < n) × (n + m ≤ 65) × (wordIn w 0 ≤ bias) × Closed n (tableOf (lentTable w)))
         × ((r .rules .count ≤ 82) × AllUsable (n + m) (rulesOf (r .rules)))
+        × (wordIn w 3 < 16)
         × ((ok : Bool) (t : List ℕ) → outcome ok t ≡ addedAll (rulesOf (r .rules)) (n + m) (grown (lentTable w) n m (wordIn w 0))
         → (ok ≡ false → t ≡ lentTable w
         → (Refused (plain 17) ≡ decided (boardIn w) (drafted (stateOf (boardIn w)) o) .ruling)
         × (wordsWith w t ≡ wordsAfter w (decided (boardIn w) (drafted (stateOf (boardIn w)) o))))
-        × ((next x z : List ℕ) → ok ≡ true → length (wordsWith w t) ≡ 5829 → x ≡ fronted (wordsWith w t) (wordIn w 2) (r .jobs)
+        × ((next x z : List ℕ) → ok ≡ true → length (wordsWith w t) ≡ 5829
+        → x ≡ fronted (wordsWith w t) (wordIn w 2) (jobsFrom (jobsOf (heldJobs (wordIn w)) ++ (jobFrom o ∷ [])))
         → drawn ≡ linesRead (wordIn next) → Ready (linesRead (wordIn next)) → z ≡ rewritten (wordIn next) x 52 1604
         → (Accepted ≡ decided (boardIn w) (drafted (stateOf (boardIn w)) o) .ruling)
         × (z ≡ wordsAfter w (decided (boardIn w) (drafted (stateOf (boardIn w)) o)))))
-
-    of-read : PlanWords (boardIn w .jobs)
     unfolding liveCount
-    of-read n m en em = (
+    plan-words n m en em = (
       (a .0 .0, a .0 .1, subst (λ (h : ℕ). h ≤ bias) (sym (horizon-is w e)) (a .0 .2), subst (λ (l : List ℕ). Closed n (tableOf l)) (sym (cells-lent w len)) (a .0 .3)),
       a .1,
+      omega (arith, g .joins .jobs, held-jobs (wordIn w) (jobs-sized w e .count)),
       (λ ok t eo.
           let eb = eo ∙ ap₂ (λ (l : List ℕ) (h : ℕ). addedAll (rulesOf (r .rules)) (n + m) (grown l n m h)) (cells-lent w len) (horizon-is w e) in (
             (λ no kept.
                 let q = unanswered w (decided (boardIn w) (drafted (stateOf (boardIn w)) o)) (boardIn w) (plain 17) (none-left g n m en em ok t eb no) in
                 (q .0, unwritten w len t kept ∙ q .1)),
             (λ next x z yes size ex ed ready ez.
-                answered w z (decided (boardIn w) (drafted (stateOf (boardIn w)) o)) _ (joined g n m en em ok t eb (r .jobs) drawn yes refl refl)
-                (assembled w e len t (wordIn w 2) (r .jobs) x ex size drawn z
-                (copied-put x next z (omega (arith, length-fronted w e len t (wordIn w 2) (r .jobs) x ex size)) ez (λ k h. line-few ready k h)
+                let new = jobsFrom (jobsOf (heldJobs (wordIn w)) ++ (jobFrom o ∷ [])) in
+                answered w z (decided (boardIn w) (drafted (stateOf (boardIn w)) o)) _ (joined g n m en em ok t eb new drawn yes refl refl)
+                (assembled w e len t (wordIn w 2) new x ex size drawn z
+                (copied-put x next z (omega (arith, length-fronted w e len t (wordIn w 2) new x ex size)) ez (λ k h. line-few ready k h)
                 ∙ ap (λ (ls : List Line). put x 52 (linesWords ls)) (sym ed)))),
           )),
     )
@@ -127,6 +129,3 @@ module _
         a : ((0 < n) × (n + m ≤ 65) × (boardIn w .horizon ≤ bias) × Closed n (tableOf (boardIn w .gaps)))
             × ((r .rules .count ≤ 82) × AllUsable (n + m) (rulesOf (r .rules)))
         a = asked g n m en em (is-sound w e)
-
-    pub plan-words : (jobs : Jobs) → jobs ≡ heldJobs (wordIn w) → PlanWords jobs
-    plan-words jobs ej = subst PlanWords (sym ej) of-read

@@ -9,7 +9,7 @@ use Prim.Native.Nat.{ℕ, suc, _+_, _≤_, _<_}
 use native.Mathlib.Omega.{arith}
 use mathlib.Core.Path.{_≡_, refl, sym, ap, subst, _∙_}
 use mathlib.Core.Bool.{Bool, true, false}
-use mathlib.Core.List.{List}
+use mathlib.Core.List.{List, [], _∷_, _++_}
 use lib.ListN.{length}
 use Rattle.rulings.specs.declared.Cause.{Cause}
 use Rattle.rulings.specs.declared.Ruling.{Ruling}
@@ -18,12 +18,12 @@ use Rattle.rulings.proofs.Laws.{refused-no}
 use Rattle.plant.specs.Plant.{plantRuling}
 use Rattle.offer.specs.Offer.{offerRuling, chainRuling, factCheck}
 use Rattle.plain.specs.declared.Rule.{Rule}
-use Rattle.plain.specs.Plain.{Offer, State, Draft, liveCount, drafted}
+use Rattle.plain.specs.Plain.{Offer, State, Draft, liveCount, jobFrom, drafted}
 use Rattle.lines.specs.declared.Jobs.{Jobs}
 use Rattle.lines.specs.declared.Line.{Line}
 use Rattle.lines.specs.declared.Puts.{Puts}
 use Rattle.lines.specs.declared.Steps.{Steps}
-use Rattle.lines.specs.Held.{jobsFrom, linesFrom, rulesOf, rulesFrom, noPut, noStep, stepsOf}
+use Rattle.lines.specs.Held.{jobsOf, jobsFrom, linesFrom, rulesOf, rulesFrom, noPut, noStep, stepsOf}
 use Rattle.lines.specs.Held as Held
 use Rattle.lines.specs.Asked.{Read}
 use Rattle.lines.proofs.Padded.{take-padded, padded-at}
@@ -50,7 +50,6 @@ pub record Going (b : Board) (o : Offer) (r : Drafted) (lines : List Line) : Typ
   pub m : ℕ
   pub rs : List Rule
   pub is : drafted (stateOf b) o ≡ Draft.go next m rs
-  pub jobs : r .jobs ≡ jobsFrom (next .jobs)
   pub after : lines ≡ linesFrom (next .lines)
   pub rules : r .rules ≡ rulesFrom rs
   pub joins : Joins (stateOf b) o next m rs
@@ -74,7 +73,7 @@ module _ (b : Board) (o : Offer) (r : Drafted) (lines : List Line) (e : DraftedA
       go : (q : Draft) → drafted (stateOf b) o ≡ q → DraftedAs r lines q → DraftJoins (stateOf b) o q → Going b o r lines
       go (Draft.stop c) is f j = absurd (refused-no c (sym f ∙ h))
       go (Draft.go next m rs) is f j =
-          record { next = next; m = m; rs = rs; is = is; jobs = f .1; after = f .2; rules = f .3; joins = j }
+          record { next = next; m = m; rs = rs; is = is; after = f .1; rules = f .2; joins = j }
 
 module _ {b : Board} {o : Offer} {r : Drafted} {drawn : List Line} (g : Going b o r drawn) where
   rules-are : rulesOf (r .rules) ≡ g .rs
@@ -105,7 +104,7 @@ module _ {b : Board} {o : Offer} {r : Drafted} {drawn : List Line} (g : Going b 
       none-left f = subst (λ (x : Bool). settled b 17 (g .next) (outcome x cells) ≡ decided b (drafted (stateOf b) o)) f tried
 
       pub joined :
-          (jobs : Jobs) (lines : List Line) → ok ≡ true → jobs ≡ r .jobs → lines ≡ drawn
+          (jobs : Jobs) (lines : List Line) → ok ≡ true → jobs ≡ jobsFrom (jobsOf (b .jobs) ++ (jobFrom o ∷ [])) → lines ≡ drawn
           → record {
             ruling = Accepted;
             board = record { horizon = b .horizon; lead = b .lead; clock = b .clock; jobs = jobs; lines = lines; gaps = cells };
@@ -117,9 +116,9 @@ module _ {b : Board} {o : Offer} {r : Drafted} {drawn : List Line} (g : Going b 
           ∙ subst (λ (x : Bool). settled b 17 (g .next) (outcome x cells) ≡ decided b (drafted (stateOf b) o)) t tried
         where
           board-is :
-              (jobs : Jobs) (lines : List Line) → jobs ≡ r .jobs → lines ≡ drawn
+              (jobs : Jobs) (lines : List Line) → jobs ≡ jobsFrom (jobsOf (b .jobs) ++ (jobFrom o ∷ [])) → lines ≡ drawn
               → record { horizon = b .horizon; lead = b .lead; clock = b .clock; jobs = jobs; lines = lines; gaps = cells } ≡ boardOf (g .next) cells
-          board-is jobs lines ej el = rw (ej, el, g .jobs, g .after, g .joins .clock, g .joins .horizon, g .joins .lead)
+          board-is jobs lines ej el = rw (ej, el, g .joins .listed, g .after, g .joins .clock, g .joins .horizon, g .joins .lead)
 
 -- ---- the offer as the code holds it
 

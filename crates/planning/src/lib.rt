@@ -1,13 +1,10 @@
-// Plans a job, on a board that is lent as its words: the offer is read, its job put behind the others, and its rules tried on the table. The lines
-// are drafted in words of their own, which are copied back where all went well. An accepted plan leaves the words of the board after it, and a
-// refused one the words that came.
-// It may use board (definitions, and what the calls share), the readers and the parts of the board.
-use board::live_count;
-use board::put_front;
-use boardwords::read_jobs;
+// Plans a job, on a board that is lent as its words: the offer is read, its rules are tried on the table, and its job is put behind the others.
+// The lines are drafted in words of their own, which are copied back where all went well. An accepted plan leaves the words of the board after it,
+// and a refused one the words that came.
+// It may use board (definitions and laws), the readers and the parts of the board.
 use drafts::Drafted;
 use drafts::draft;
-use lines::Jobs;
+use jobwords::add_job;
 use lines::Puts;
 use lines::Steps;
 use linewords::copy_lines;
@@ -16,6 +13,7 @@ use offer::check_chain;
 use offer::read_offer;
 use offered::read_durations;
 use offered::read_puts;
+use plain::Job;
 use plant::Trailer;
 use plant::check_plant;
 use plant::read_trailer;
@@ -23,6 +21,7 @@ use rulings::Cause;
 use rulings::Ruling;
 use settling::try_grown;
 use sound::is_sound_in;
+use sound::points_in;
 use words::u32_at;
 ghost use mathlib.Core.Path.{_≡_};
 ghost use mathlib.Core.Bool.{true};
@@ -30,8 +29,8 @@ ghost use Prim.Native.Nat.{ℕ, _≤_};
 ghost use lib.ListN.{length};
 ghost use Rattle.rulings.specs.declared.Ruling.the-variants.{Accepted};
 ghost use Rattle.plant.specs.Plant.{plantRuling, trailerOf};
-ghost use Rattle.plain.specs.Plain.{drafted};
-ghost use Rattle.lines.specs.Held.{stepsOf, heldOffer};
+ghost use Rattle.plain.specs.Plain.{total, drafted};
+ghost use Rattle.lines.specs.Held.{jobsOf, stepsOf, heldOffer};
 ghost use Rattle.lines.specs.Asked.{Ready, Read};
 ghost use Rattle.rulebook.specs.Reading.{readingOf};
 ghost use Rattle.offered.specs.Sized.{SizedOffer};
@@ -42,59 +41,53 @@ ghost use Rattle.board.specs.Boards.{stateOf};
 ghost use Rattle.board.specs.Calls.{decided, heard, planned};
 ghost use Rattle.board.specs.InWords.{wordsAfter};
 
-// The draft of an offer that was read, on a sound board: its lines are those of `next`, which holds 0 before.
-fn draft_on(
-    w: &[u32],
-    next: &mut [u32],
-    jobs: Jobs,
-    batch: u32,
-    steps: Steps,
-    puts: Puts,
-) -> Drafted
+// The draft of an offer that was read, on a sound board of n points beside the origin: its lines are those of `next`, which holds 0 before.
+fn draft_on(w: &[u32], next: &mut [u32], n: u32, batch: u32, steps: Steps, puts: Puts) -> Drafted
     requires { ⌜ (length (now w) ≡ 5829) × (length (now next) ≡ 1604) ⌝ }
-    requires { ⌜ (sound (boardIn (now w)) ≡ true) × (jobs ≡ heldJobs (wordIn (now w))) × (steps .count ≤ 8) × Read puts ⌝ }
+    requires { ⌜ (sound (boardIn (now w)) ≡ true) × (n ≡ total (jobsOf (heldJobs (wordIn (now w))))) × (steps .count ≤ 8) × Read puts ⌝ }
     requires { ⌜ ((k : ℕ) → wordIn (now next) k ≡ 0) ⌝ }
     ensures drafted { λ r. ⌜ DraftedAs r (linesRead (wordIn (now (next .exit)))) (drafted (stateOf (boardIn (now (w .entry)))) (heldOffer batch steps puts)) ⌝ }
     ensures ready { λ _. ⌜ Ready (linesRead (wordIn (now (next .exit)))) ⌝ }
 {
     lay_lines(next, w);
-    draft(next, jobs, w[2], w[1], batch, steps, puts)
+    draft(next, w, n, batch, steps, puts)
 }
 
 // An offer that was read, on a sound board: 14 to 17, or the words of the board with its job.
-fn plan_job(w: &mut [u32], jobs: Jobs, batch: u32, steps: Steps, puts: Puts) -> Ruling
+fn plan_job(w: &mut [u32], batch: u32, steps: Steps, puts: Puts) -> Ruling
     requires { ⌜ length (now w) ≡ 5829 ⌝ }
-    requires { ⌜ (sound (boardIn (now w)) ≡ true) × (jobs ≡ heldJobs (wordIn (now w))) × (steps .count ≡ length (stepsOf steps)) × (steps .count ≤ 8) × Read puts × SizedOffer (heldOffer batch steps puts) ⌝ }
+    requires { ⌜ (sound (boardIn (now w)) ≡ true) × (steps .count ≡ length (stepsOf steps)) × (steps .count ≤ 8) × Read puts × SizedOffer (heldOffer batch steps puts) ⌝ }
     ensures ruling { λ r. ⌜ r ≡ decided (boardIn (now (w .entry))) (drafted (stateOf (boardIn (now (w .entry)))) (heldOffer batch steps puts)) .ruling ⌝ }
     ensures words { λ _. ⌜ now (w .exit) ≡ wordsAfter (now (w .entry)) (decided (boardIn (now (w .entry))) (drafted (stateOf (boardIn (now (w .entry)))) (heldOffer batch steps puts))) ⌝ }
 {
     let horizon = w[0];
-    let clock = w[2];
+    let n = points_in(w);
     let mut next = [0u32; 1604];
-    let drafted = draft_on(w, &mut next, jobs, batch, steps, puts);
+    let drafted = draft_on(w, &mut next, n, batch, steps, puts);
     let ruling = drafted.ruling;
     if let Ruling::Refused(cause) = ruling {
         return Ruling::Refused(cause);
     }
-    if !try_grown(
-        &mut w[1604..],
-        live_count(jobs),
-        steps.count + 1,
-        horizon,
-        drafted.rules,
-    ) {
+    let more = steps.count + 1;
+    if !try_grown(&mut w[1604..], n as usize + 1, more, horizon, drafted.rules) {
         return Ruling::Refused(Cause::Plain(17));
     }
-    let after = drafted.jobs;
-    put_front(w, clock, after);
+    add_job(
+        w,
+        Job {
+            points: more as u32,
+            batch,
+            sent: false,
+        },
+    );
     copy_lines(w, &next);
     Ruling::Accepted
 }
 
 // An offer on a sound board, of a good plant file: 7 to 13, or what its job comes to.
-fn plan_offer(w: &mut [u32], jobs: Jobs, plant: &[u8], end: Trailer, offer: &[u8]) -> Ruling
+fn plan_offer(w: &mut [u32], plant: &[u8], end: Trailer, offer: &[u8]) -> Ruling
     requires { ⌜ length (now w) ≡ 5829 ⌝ }
-    requires { ⌜ (sound (boardIn (now w)) ≡ true) × (jobs ≡ heldJobs (wordIn (now w))) × (plantRuling (now plant) ≡ Accepted) × (end ≡ trailerOf (now plant)) ⌝ }
+    requires { ⌜ (sound (boardIn (now w)) ≡ true) × (plantRuling (now plant) ≡ Accepted) × (end ≡ trailerOf (now plant)) ⌝ }
     ensures ruling { λ r. ⌜ r ≡ heard (boardIn (now (w .entry))) (readingOf (now (plant .entry)) (now (offer .entry))) .ruling ⌝ }
     ensures words { λ _. ⌜ now (w .exit) ≡ wordsAfter (now (w .entry)) (heard (boardIn (now (w .entry))) (readingOf (now (plant .entry)) (now (offer .entry)))) ⌝ }
 {
@@ -108,7 +101,7 @@ fn plan_offer(w: &mut [u32], jobs: Jobs, plant: &[u8], end: Trailer, offer: &[u8
     }
     let steps = read_durations(plant, end, offer);
     let puts = read_puts(plant, end, offer);
-    plan_job(w, jobs, u32_at(offer, 0), steps, puts)
+    plan_job(w, u32_at(offer, 0), steps, puts)
 }
 
 // The first of refusals 1 to 4, 6 and 7 to 17, or the words of the board with the offer's job.
@@ -124,6 +117,5 @@ pub fn plan_in(w: &mut [u32], plant: &[u8], offer: &[u8]) -> Ruling
     if !is_sound_in(w) {
         return Ruling::Refused(Cause::Plain(6));
     }
-    let jobs = read_jobs(w);
-    plan_offer(w, jobs, plant, read_trailer(plant), offer)
+    plan_offer(w, plant, read_trailer(plant), offer)
 }

@@ -1,5 +1,4 @@
--- Jobs, lines and boards in words. Assumes nothing.
---   job-next, job-over   what is left of the jobs, after k of them
+-- Lines and boards in words. Assumes nothing.
 --   use-next, use-over   what is left of a line, after k of its uses;  lines-next: of the lines
 --   framed-in            numbers, jobs and lines of words and their table lent are the board of the words
 --   unmarked             a board with a job in use that is marked by neither 0 nor 1 is not sound
@@ -11,28 +10,17 @@ use mathlib.Core.List.{List, [], _∷_}
 use native.Mathlib.Omega.{arith}
 use lib.ListN.{length, drop}
 use lib.Dec.{eqb}
-use Rattle.plain.specs.declared.Job.{Job}
 use Rattle.plain.specs.declared.Use.{Use}
 use Rattle.plain.specs.Plain.{noUse}
 use Rattle.lines.specs.declared.Line.{Line}
-use Rattle.lines.specs.Held.{jobsOf, lineOf, noJob, noLine}
+use Rattle.lines.specs.Held.{lineOf, noLine}
 use Rattle.lines.proofs.Lists.{held-next, held-over}
 use Rattle.lists.specs.Loops.{allBelow}
-use Rattle.boardwords.specs.Words.{Words, wordIn, jobAt, jobsRead, heldJobs, boardIn, useAt, lineRead, lineAt, linesRead, usesRead, boardRead, decoded, allMarked, isMarked}
+use Rattle.boardwords.specs.Words.{Words, wordIn, boardIn, useAt, lineRead, lineAt, linesRead, usesRead, boardRead, decoded, allMarked, isMarked}
 use Rattle.lists.proofs.Build.{build-length, build-at}
 use Rattle.boardwords.proofs.Lent.{lentTable, cells-lent}
 use Rattle.sound.specs.Sound.{framed, sound}
 use Rattle.sound.proofs.Flags.{left-next}
-
-module _ (w : Words) (few : w 3 ≤ 16) where
-  pub job-next :
-      (k : ℕ) (j : Job) → k < w 3 → j ≡ jobAt w k → drop k (jobsOf (heldJobs w)) ≡ j ∷ drop (k + 1) (jobsOf (heldJobs w))
-  job-next k j h e =
-      held-next (w 3) (jobsRead w) k noJob h (omega (arith, build-length (jobAt w) 16))
-      ∙ ap (λ (x : Job). x ∷ drop (k + 1) (jobsOf (heldJobs w))) (build-at (jobAt w) 16 k noJob (omega arith) ∙ sym e)
-
-  pub job-over : (k : ℕ) → w 3 ≤ k → drop k (jobsOf (heldJobs w)) ≡ []
-  job-over k h = held-over (w 3) (jobsRead w) k h
 
 module _ (w : Words) (at : ℕ) (small : w at ≤ 32) where
   long : length (usesRead w (at + 1)) ≡ 32

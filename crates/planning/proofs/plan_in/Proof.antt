@@ -1,8 +1,5 @@
--- `plan_in` meets its contract: the plant file first, then the board, then the offer.
-use Prim.Native.Nat.{_-_}
-use borrow.Author.Needs.{needs}
+-- `plan_in` meets its contract: a bad plant file, a board that is not sound, or what the offer comes to.
 use borrow.Author.Tests.{not-true, not-false}
-use mathlib.Core.Path.{sym, _∙_, ap}
 use Rattle.rulings.specs.Answer.{plain}
 use Rattle.plant.proofs.Good.{good}
 use Rattle.boardwords.specs.Words.{boardIn}
@@ -10,6 +7,8 @@ use Rattle.board.specs.declared.Ruled.{Ruled}
 use Rattle.board.specs.InWords.{wordsAfter}
 use Rattle.board.proofs.InWords.{unanswered}
 use Rattle.planning.proofs.Planned.{bad-plant, unsound, on-reading}
+use mathlib.Core.Path.{sym, _∙_, ap}
+use borrow.Author.Needs.{needs}
 use Rattle.planning.proofs.plan_in.Statement.{statement}
 use Rattle.planning.proofs.plan_in.Tie as tie
 
@@ -34,21 +33,19 @@ same-length c = search needs
 returns-2 : tie.Need-returns-2
 returns-2 c = unanswered (c .before .before .before .before .before .before .before .before .before .args .w .now) _ _ (plain 6) (unsound (boardIn (c .before .before .before .before .before .before .before .before .before .args .w .now)) (c .before .before .before .before .before .before .before .before .before .args .plant .now) (c .before .before .before .before .before .before .before .before .before .args .offer .now) (sym (c .before .before .before .before .before .check-plant .ensures) ∙ c .before .before .before .enum-told .given .1) (sym (c .before .is-sound-in .ensures) ∙ not-true _ (c .if1 .taken)))
 
-read-jobs-requires : tie.Need-read-jobs-requires
-read-jobs-requires c κs = search needs
-
 read-trailer-requires : tie.Need-read-trailer-requires
-read-trailer-requires c κs = good _ (sym (c .before .before .before .before .before .before .before .before .check-plant .ensures) ∙ c .before .before .before .before .before .before .enum-told .given .1) .long
+read-trailer-requires c κs = good _ (sym (c .before .before .before .before .before .before .check-plant .ensures) ∙ c .before .before .before .before .enum-told .given .1) .long
 
 plan-offer-requires : tie.Need-plan-offer-requires
-plan-offer-requires c κs = (c .before .before .before .before .before .before .before .before .before .before .before .before .before .pre, ((sym (c .before .before .before .before .before .is-sound-in .ensures) ∙ not-false _ (c .before .before .before .before .if1 .left)), c .before .before .read-jobs .ensures, (sym (c .before .before .before .before .before .before .before .before .before .check-plant .ensures) ∙ c .before .before .before .before .before .before .before .enum-told .given .1), c .read-trailer .ensures .0))
+plan-offer-requires c κs = (c .before .before .before .before .before .before .before .before .before .before .before .pre, ((sym (c .before .before .before .is-sound-in .ensures) ∙ not-false _ (c .before .before .if1 .left)), (sym (c .before .before .before .before .before .before .before .check-plant .ensures) ∙ c .before .before .before .before .before .enum-told .given .1), c .read-trailer .ensures .0))
 
 same-length-2 : tie.Need-same-length-2
 same-length-2 c = search needs
 
 returns-3 : tie.Need-returns-3
-returns-3 c = let is = on-reading (boardIn (c .before .before .before .before .before .before .before .before .before .before .before .before .before .before .before .before .args .w .now)) (c .before .before .before .before .before .before .before .before .before .before .before .before .before .before .before .before .args .plant .now) (c .before .before .before .before .before .before .before .before .before .before .before .before .before .before .before .before .args .offer .now) (sym (c .before .before .before .before .before .before .before .before .before .before .before .before .check-plant .ensures) ∙ c .before .before .before .before .before .before .before .before .before .before .enum-told .given .1) (sym (c .before .before .before .before .before .before .before .before .is-sound-in .ensures) ∙ not-false _ (c .before .before .before .before .before .before .before .if1 .left)) in
-    (c .before .before .plan-offer .ensures .0 ∙ ap (λ (r : Ruled). r .ruling) is, c .before .before .plan-offer .ensures .1 ∙ ap (wordsAfter (c .before .before .before .before .before .before .before .before .before .before .before .before .before .before .before .before .args .w .now)) is)
+returns-3 c = let A = c .before .before .before .before .before .before .before .before .before .before .before .before .before .before .args in
+    let is = on-reading (boardIn (A .w .now)) (A .plant .now) (A .offer .now) (sym (c .before .before .before .before .before .before .before .before .before .before .check-plant .ensures) ∙ c .before .before .before .before .before .before .before .before .enum-told .given .1) (sym (c .before .before .before .before .before .before .is-sound-in .ensures) ∙ not-false _ (c .before .before .before .before .before .if1 .left)) in
+    (c .before .before .plan-offer .ensures .0 ∙ ap (λ (r : Ruled). r .ruling) is, c .before .before .plan-offer .ensures .1 ∙ ap (wordsAfter (A .w .now)) is)
 
 pub plan-in-spec : {M : Type 1} → statement M
 plan-in-spec =
@@ -61,7 +58,6 @@ plan-in-spec =
     is-sound-in-requires
     same-length
     returns-2
-    read-jobs-requires
     read-trailer-requires
     plan-offer-requires
     same-length-2

@@ -11,7 +11,7 @@ use Rattle.report.proofs.Laws.{length-rows}
 use Rattle.boardwords.specs.Words.{wordIn, heldJobs}
 use Rattle.boardwords.specs.Codec.{joined, put}
 use Rattle.boardwords.proofs.Put.{put-none}
-use Rattle.sound.proofs.InWords.{job-next, job-over}
+use Rattle.boardwords.proofs.Boards.{job-next, job-over}
 use Rattle.rowwords.specs.Rows.{rowWords, rowsWords}
 use Rattle.rowwords.proofs.Rows.{Rest, rest-start, rest-next, job-rows}
 use Rattle.rowwords.proofs.put_rows.Statement.{statement}

@@ -1,13 +1,12 @@
 -- `clock_in` meets its contract, case by case.
-use Prim.Native.Nat.{_-_}
-use native.Mathlib.Omega.{arith}
-use borrow.Author.Needs.{needs}
 use borrow.Author.Tests.{not-true, not-false}
-use mathlib.Core.Path.{sym, _∙_}
 use Rattle.rulings.specs.Answer.{plain}
 use Rattle.boardwords.specs.Words.{boardIn}
 use Rattle.board.proofs.InWords.{horizon-is, unanswered}
 use Rattle.dispatch.proofs.Clocked.{unsound, back, past}
+use mathlib.Core.Path.{sym, _∙_}
+use native.Mathlib.Omega.{arith}
+use borrow.Author.Needs.{needs}
 use Rattle.dispatch.proofs.clocking.clock_in.Statement.{statement}
 use Rattle.dispatch.proofs.clocking.clock_in.Tie as tie
 
@@ -20,9 +19,6 @@ same-length c = search needs
 returns : tie.Need-returns
 returns c = unanswered (c .before .before .before .before .args .w .now) _ _ (plain 6) (unsound (boardIn (c .before .before .before .before .args .w .now)) (c .before .before .before .before .args .c) (sym (c .before .is-sound-in .ensures) ∙ not-true _ (c .if1 .taken)))
 
-read-jobs-requires : tie.Need-read-jobs-requires
-read-jobs-requires c κs = search needs
-
 slice-read-if2 : tie.Need-slice-read-if2
 slice-read-if2 c = search needs
 
@@ -30,7 +26,7 @@ same-length-2 : tie.Need-same-length-2
 same-length-2 c = search needs
 
 returns-2 : tie.Need-returns-2
-returns-2 c = unanswered (c .before .before .before .before .before .before .before .before .args .w .now) _ _ (plain 19) (back (boardIn (c .before .before .before .before .before .before .before .before .args .w .now)) (c .before .before .before .before .before .before .before .before .args .c) (sym (c .before .before .before .before .before .is-sound-in .ensures) ∙ not-false _ (c .before .before .before .before .if1 .left)) (c .if2 .taken))
+returns-2 c = unanswered (c .before .before .before .before .before .before .args .w .now) _ _ (plain 19) (back (boardIn (c .before .before .before .before .before .before .args .w .now)) (c .before .before .before .before .before .before .args .c) (sym (c .before .before .before .is-sound-in .ensures) ∙ not-false _ (c .before .before .if1 .left)) (c .if2 .taken))
 
 slice-read-if3 : tie.Need-slice-read-if3
 slice-read-if3 c = search needs
@@ -39,10 +35,11 @@ same-length-3 : tie.Need-same-length-3
 same-length-3 c = search needs
 
 returns-3 : tie.Need-returns-3
-returns-3 c = unanswered (c .before .before .before .before .before .before .before .before .before .before .args .w .now) _ _ (plain 19) (past (boardIn (c .before .before .before .before .before .before .before .before .before .before .args .w .now)) (c .before .before .before .before .before .before .before .before .before .before .args .c) (sym (c .before .before .before .before .before .before .before .is-sound-in .ensures) ∙ not-false _ (c .before .before .before .before .before .before .if1 .left)) (c .before .before .if2 .left) (omega (arith, horizon-is (c .before .before .before .before .before .before .before .before .before .before .args .w .now) (sym (c .before .before .before .before .before .before .before .is-sound-in .ensures) ∙ not-false _ (c .before .before .before .before .before .before .if1 .left)), c .if3 .taken)))
+returns-3 c = let sound = sym (c .before .before .before .before .before .is-sound-in .ensures) ∙ not-false _ (c .before .before .before .before .if1 .left) in
+    unanswered (c .before .before .before .before .before .before .before .before .args .w .now) _ _ (plain 19) (past (boardIn (c .before .before .before .before .before .before .before .before .args .w .now)) (c .before .before .before .before .before .before .before .before .args .c) sound (c .before .before .if2 .left) (omega (arith, horizon-is (c .before .before .before .before .before .before .before .before .args .w .now) sound, c .if3 .taken)))
 
 move-clock-requires : tie.Need-move-clock-requires
-move-clock-requires c κs = (c .before .before .before .before .before .before .before .before .before .before .before .pre, ((sym (c .before .before .before .before .before .before .before .before .is-sound-in .ensures) ∙ not-false _ (c .before .before .before .before .before .before .before .if1 .left)), c .before .before .before .before .before .read-jobs .ensures, c .before .before .before .if2 .left, c .before .if3 .left))
+move-clock-requires c κs = (c .before .before .before .before .before .before .before .before .before .pre, ((sym (c .before .before .before .before .before .before .is-sound-in .ensures) ∙ not-false _ (c .before .before .before .before .before .if1 .left)), c .before .before .before .if2 .left, c .before .if3 .left))
 
 same-length-4 : tie.Need-same-length-4
 same-length-4 c = search needs
@@ -57,7 +54,6 @@ clock-in-spec =
     is-sound-in-requires
     same-length
     returns
-    read-jobs-requires
     slice-read-if2
     same-length-2
     returns-2

@@ -1,22 +1,41 @@
--- `move_clock` meets its contract: 20 with the words that came, or each part of the board is what the definition says.
-use Prim.Native.Nat.{_-_}
+-- `move_clock` meets its contract: rules that do not agree, or each part of the board is what the definition says.
+use Prim.Native.Nat.{suc}
+use mathlib.Core.List.{List}
+use native.Mathlib.Numerals.{add-one}
+use borrow.Author.Tests.{not-true, not-false}
+use Rattle.plain.specs.declared.Job.{Job}
+use Rattle.lines.specs.Held.{jobsOf, jobsFrom}
+use Rattle.boardwords.specs.Words.{wordIn, heldJobs}
+use Rattle.boardwords.proofs.Lent.{length-lent, with-word}
+use Rattle.board.proofs.InWords.{points-asked, few-after, jobs-sized, closed-lent, clocked-kept, marks-kept}
+use Rattle.dispatch.proofs.Clocked.{start-fits, start-words, clocked-words}
+use mathlib.Core.Path.{_∙_, ap}
 use native.Mathlib.Omega.{arith}
 use borrow.Author.Needs.{needs}
-use borrow.Author.Tests.{not-true, not-false}
-use Rattle.boardwords.proofs.Lent.{length-lent}
-use Rattle.board.proofs.InWords.{few-after, jobs-sized, closed-lent}
-use Rattle.dispatch.proofs.Clocked.{start-fits, start-words, clocked-words}
 use Rattle.dispatch.proofs.clocking.move_clock.Statement.{statement}
 use Rattle.dispatch.proofs.clocking.move_clock.Tie as tie
 
-slice-read-start-rules : tie.Need-slice-read-start-rules
-slice-read-start-rules c = search needs
+points-in-requires : tie.Need-points-in-requires
+points-in-requires c κs =
+    let points = points-asked (c .before .before .args .w .now) (c .before .before .pre .1 .0) in
+    (search needs, points .0, points .1)
+
+cast-n : tie.Need-cast-n
+cast-n c = search needs
+
+add-n : tie.Need-add-n
+add-n c = search needs
+
+slice-reshared-read-start-rules : tie.Need-slice-reshared-read-start-rules
+slice-reshared-read-start-rules c = search needs
 
 add-start-rules : tie.Need-add-start-rules
-add-start-rules c = omega (arith, start-fits (c .before .before .args .w .now) (c .before .before .pre .0) (c .before .before .pre .1 .0) _ (c .before .before .pre .1 .1) (c .before .before .args .c) (c .before .before .pre .1 .2) (c .before .before .pre .1 .3))
+add-start-rules c = let A = c .before .before .before .before .args in
+    let P = c .before .before .before .before .pre in
+    omega (arith, start-fits (A .w .now) (P .0) (P .1 .0) (A .c) (P .1 .1) (P .1 .2))
 
 start-rules-requires : tie.Need-start-rules-requires
-start-rules-requires c κs = jobs-sized (c .before .before .args .w .now) (c .before .before .pre .1 .0) _ (c .before .before .pre .1 .1)
+start-rules-requires c κs = (search needs, jobs-sized (c .before .before .before .before .args .w .now) (c .before .before .before .before .pre .1 .0))
 
 sub-try-rules : tie.Need-sub-try-rules
 sub-try-rules c = search needs
@@ -27,52 +46,62 @@ part-try-rules-start c = search needs
 part-try-rules-end : tie.Need-part-try-rules-end
 part-try-rules-end c = search needs
 
-live-count-requires : tie.Need-live-count-requires
-live-count-requires c κs = jobs-sized (c .before .before .before .before .args .w .now) (c .before .before .before .before .pre .1 .0) _ (c .before .before .before .before .pre .1 .1)
-
 try-rules-requires : tie.Need-try-rules-requires
-try-rules-requires c κs = let n = c .live-count .ensures in
-    let r = start-words (c .before .before .before .before .before .args .w .now) (c .before .before .before .before .before .pre .0) (c .before .before .before .before .before .pre .1 .0) _ (c .before .before .before .before .before .pre .1 .1) (c .before .before .before .before .before .args .c) (c .before .before .before .before .before .pre .1 .2) (c .before .before .before .before .before .pre .1 .3) _ (c .before .before .start-rules .ensures) in
-    ((length-lent (c .before .before .before .before .before .args .w .now) (c .before .before .before .before .before .pre .0), omega (arith, n), omega (arith, n, jobs-sized (c .before .before .before .before .before .args .w .now) (c .before .before .before .before .before .pre .1 .0) _ (c .before .before .before .before .before .pre .1 .1) .points), closed-lent (c .before .before .before .before .before .args .w .now) (c .before .before .before .before .before .pre .1 .0) _ (c .before .before .before .before .before .pre .1 .1) (c .before .before .before .before .before .pre .0) _ n), (r .0, r .1 _ n))
+try-rules-requires c κs = let A = c .before .before .before .before .before .before .args in
+    let P = c .before .before .before .before .before .before .pre in
+    let n = add-one _ ∙ ap suc (c .before .before .before .points-in .ensures) in
+    let r = start-words (A .w .now) (P .0) (P .1 .0) (A .c) (P .1 .1) (P .1 .2) _ (c .before .start-rules .ensures) in
+    ((length-lent (A .w .now) (P .0), omega arith, omega (arith, c .before .before .before .points-in .ensures, jobs-sized (A .w .now) (P .1 .0) .points), closed-lent (A .w .now) (P .1 .0) (P .0) _ n), (r .0, r .1 _ n))
 
 same-length : tie.Need-same-length
 same-length c = search needs
 
 returns : tie.Need-returns
-returns c = let no = not-true _ (c .if1 .taken) in
-    clocked-words (c .before .before .before .before .before .before .before .before .before .args .w .now) (c .before .before .before .before .before .before .before .before .before .pre .0) (c .before .before .before .before .before .before .before .before .before .pre .1 .0) _ (c .before .before .before .before .before .before .before .before .before .pre .1 .1) (c .before .before .before .before .before .before .before .before .before .args .c) (c .before .before .before .before .before .before .before .before .before .pre .1 .2) (c .before .before .before .before .before .before .before .before .before .pre .1 .3) _ _ _ _ (c .before .before .before .before .before .before .start-rules .ensures) (c .before .before .before .before .live-count .ensures) (c .before .before .before .try-rules .ensures .0) .0 no (c .before .before .before .try-rules .ensures .1 no)
+returns c = let A = c .before .before .before .before .before .before .before .before .before .before .args in
+    let P = c .before .before .before .before .before .before .before .before .before .before .pre in
+    let no = not-true _ (c .if1 .taken) in
+    clocked-words (A .w .now) (P .0) (P .1 .0) (A .c) (P .1 .1) (P .1 .2) _ _ _ _ (c .before .before .before .before .before .start-rules .ensures) (add-one _ ∙ ap suc (c .before .before .before .before .before .before .before .points-in .ensures)) (c .before .before .before .try-rules .ensures .0) .0 no (c .before .before .before .try-rules .ensures .1 no)
 
-tidy-jobs-requires : tie.Need-tidy-jobs-requires
-tidy-jobs-requires c κs = jobs-sized (c .before .before .before .before .before .before .before .before .before .before .args .w .now) (c .before .before .before .before .before .before .before .before .before .before .pre .1 .0) _ (c .before .before .before .before .before .before .before .before .before .before .pre .1 .1) .count
-
-put-front-requires : tie.Need-put-front-requires
-put-front-requires c κs = search needs
+put-clock-requires : tie.Need-put-clock-requires
+put-clock-requires c κs = let A = c .before .before .before .before .before .before .before .before .before .before .before .args in
+    let P = c .before .before .before .before .before .before .before .before .before .before .before .pre in
+    let t = c .before .before .before .before .try-rules .last .0 in
+    (omega arith, omega (arith, with-word (A .w .now) (P .0) t 3 (omega arith), jobs-sized (A .w .now) (P .1 .0) .count), marks-kept (A .w .now) (P .1 .0) (P .0) t)
 
 tidy-lines-requires : tie.Need-tidy-lines-requires
-tidy-lines-requires c κs = (search needs, few-after (c .before .before .before .before .before .before .before .before .before .before .before .before .before .before .before .args .w .now) (c .before .before .before .before .before .before .before .before .before .before .before .before .before .before .before .pre .1 .0) (c .before .before .before .before .before .before .before .before .before .before .before .before .before .before .before .pre .0) (c .before .before .before .before .before .before .before .before .before .try-rules .last .0) _ (c .before .before .before .before .tidy-jobs .result) (c .before .before .before .put-front .last .0) (c .before .before .before .put-front .ensures))
+tidy-lines-requires c κs = let A = c .before .before .before .before .before .before .before .before .before .before .before .before .before .before .before .args in
+    let P = c .before .before .before .before .before .before .before .before .before .before .before .before .before .before .before .pre in
+    let t = c .before .before .before .before .before .before .before .before .try-rules .last .0 in
+    let ex = clocked-kept (A .w .now) (P .1 .0) (P .0) t (A .c) (λ (js : List Job). js) _ (c .before .before .before .put-clock .ensures) in
+    (search needs, few-after (A .w .now) (P .1 .0) (P .0) t (A .c) (jobsFrom (jobsOf (heldJobs (wordIn (A .w .now))))) (c .before .before .before .put-clock .last .0) ex)
 
 same-length-2 : tie.Need-same-length-2
 same-length-2 c = search needs
 
 returns-2 : tie.Need-returns-2
-returns-2 c = clocked-words (c .before .before .before .before .before .before .before .before .before .before .before .before .before .before .before .before .before .before .args .w .now) (c .before .before .before .before .before .before .before .before .before .before .before .before .before .before .before .before .before .before .pre .0) (c .before .before .before .before .before .before .before .before .before .before .before .before .before .before .before .before .before .before .pre .1 .0) _ (c .before .before .before .before .before .before .before .before .before .before .before .before .before .before .before .before .before .before .pre .1 .1) (c .before .before .before .before .before .before .before .before .before .before .before .before .before .before .before .before .before .before .args .c) (c .before .before .before .before .before .before .before .before .before .before .before .before .before .before .before .before .before .before .pre .1 .2) (c .before .before .before .before .before .before .before .before .before .before .before .before .before .before .before .before .before .before .pre .1 .3) _ _ _ _ (c .before .before .before .before .before .before .before .before .before .before .before .before .before .before .before .start-rules .ensures) (c .before .before .before .before .before .before .before .before .before .before .before .before .before .live-count .ensures) (c .before .before .before .before .before .before .before .before .before .before .before .before .try-rules .ensures .0) .1 _ _ _ (not-false _ (c .before .before .before .before .before .before .before .before .before .if1 .left)) (c .before .before .before .before .before .before .before .tidy-jobs .ensures) (omega arith) (c .before .before .before .before .before .before .put-front .ensures) (c .before .before .tidy-lines .ensures)
+returns-2 c = let A = c .before .before .before .before .before .before .before .before .before .before .before .before .before .before .before .before .before .before .args in
+    let P = c .before .before .before .before .before .before .before .before .before .before .before .before .before .before .before .before .before .before .pre in
+    let t = c .before .before .before .before .before .before .before .before .before .before .before .try-rules .last .0 in
+    let ex = clocked-kept (A .w .now) (P .1 .0) (P .0) t (A .c) (λ (js : List Job). js) _ (c .before .before .before .before .before .before .put-clock .ensures) in
+    clocked-words (A .w .now) (P .0) (P .1 .0) (A .c) (P .1 .1) (P .1 .2) _ _ _ _ (c .before .before .before .before .before .before .before .before .before .before .before .before .before .start-rules .ensures) (add-one _ ∙ ap suc (c .before .before .before .before .before .before .before .before .before .before .before .before .before .before .before .points-in .ensures)) (c .before .before .before .before .before .before .before .before .before .before .before .try-rules .ensures .0) .1 (c .before .before .before .before .before .before .put-clock .last .0) _ (not-false _ (c .before .before .before .before .before .before .before .before .if1 .left)) (omega arith) ex (c .before .before .tidy-lines .ensures)
 
 pub move-clock-spec : {M : Type 1} → statement M
 move-clock-spec =
     tie.close
     (tie.spec
-    slice-read-start-rules
+    points-in-requires
+    cast-n
+    add-n
+    slice-reshared-read-start-rules
     add-start-rules
     start-rules-requires
     sub-try-rules
     part-try-rules-start
     part-try-rules-end
-    live-count-requires
     try-rules-requires
     same-length
     returns
-    tidy-jobs-requires
-    put-front-requires
+    put-clock-requires
     tidy-lines-requires
     same-length-2
     returns-2)

@@ -1,28 +1,49 @@
 -- `retire_sent` meets its contract: each part of the board is what the definition says.
-use Prim.Native.Nat.{_-_}
+use Prim.Native.Nat.{suc}
+use mathlib.Core.List.{List}
+use lib.ListN.{drop}
+use native.Mathlib.Numerals.{add-one}
+use borrow.Author.Tests.{not-true, not-false}
+use Rattle.plain.specs.declared.Job.{Job}
+use Rattle.lines.specs.Held.{jobsOf, jobsFrom}
+use Rattle.boardwords.specs.Words.{wordIn, heldJobs}
+use Rattle.boardwords.proofs.Lent.{length-lent, with-word}
+use Rattle.board.proofs.InWords.{points-asked, few-after, jobs-sized, marks-kept, fronted-kept}
+use Rattle.dispatch.proofs.Retired.{leaving-words, retired-words}
+use mathlib.Core.Path.{_∙_, ap}
 use native.Mathlib.Omega.{arith}
 use borrow.Author.Needs.{needs}
-use borrow.Author.Tests.{not-true, not-false}
-use Rattle.boardwords.proofs.Lent.{length-lent}
-use Rattle.board.proofs.InWords.{few-after, jobs-sized}
-use Rattle.dispatch.proofs.Retired.{leaving-words, retired-words}
 use Rattle.dispatch.proofs.retiring.retire_sent.Statement.{statement}
 use Rattle.dispatch.proofs.retiring.retire_sent.Tie as tie
 
-slice-read-clock : tie.Need-slice-read-clock
-slice-read-clock c = search needs
+points-in-requires : tie.Need-points-in-requires
+points-in-requires c κs =
+    let points = points-asked (c .before .before .args .w .now) (c .before .before .pre .1 .0) in
+    (search needs, points .0, points .1)
 
-element-copy-out-oldest : tie.Need-element-copy-out-oldest
-element-copy-out-oldest c = search needs
+cast-n : tie.Need-cast-n
+cast-n c = search needs
+
+add-n : tie.Need-add-n
+add-n c = search needs
+
+read-job-requires : tie.Need-read-job-requires
+read-job-requires c κs = search needs
 
 is-over-requires : tie.Need-is-over-requires
-is-over-requires c κs = (c .before .before .before .before .pre .0, (leaving-words (c .before .before .before .before .args .w .now) (c .before .before .before .before .pre .0) (c .before .before .before .before .pre .1 .0) _ (c .before .before .before .before .pre .1 .1) (c .before .before .before .before .pre .1 .2) .0, leaving-words (c .before .before .before .before .args .w .now) (c .before .before .before .before .pre .0) (c .before .before .before .before .pre .1 .0) _ (c .before .before .before .before .pre .1 .1) (c .before .before .before .before .pre .1 .2) .1, leaving-words (c .before .before .before .before .args .w .now) (c .before .before .before .before .pre .0) (c .before .before .before .before .pre .1 .0) _ (c .before .before .before .before .pre .1 .1) (c .before .before .before .before .pre .1 .2) .2))
+is-over-requires c κs = let A = c .before .before .before .before .before .before .args in
+    let P = c .before .before .before .before .before .before .pre in
+    let l = leaving-words (A .w .now) (P .0) (P .1 .0) (P .1 .1) _ (c .before .read-job .ensures) in
+    (P .0, (l .0, l .1, l .2))
 
 same-length : tie.Need-same-length
 same-length c = search needs
 
 returns : tie.Need-returns
-returns c = retired-words (c .before .before .before .before .before .before .args .w .now) (c .before .before .before .before .before .before .pre .0) (c .before .before .before .before .before .before .pre .1 .0) _ (c .before .before .before .before .before .before .pre .1 .1) (c .before .before .before .before .before .before .pre .1 .2) _ (c .before .before .before .before .before .before .pre .1 .3) (c .before .is-over .ensures) .0 (not-true _ (c .if1 .taken))
+returns c = let A = c .before .before .before .before .before .before .before .before .args in
+    let P = c .before .before .before .before .before .before .before .before .pre in
+    let is = c .before .before .before .read-job .ensures in
+    retired-words (A .w .now) (P .0) (P .1 .0) (P .1 .1) _ is _ (ap (λ (j : Job). j .sent) is ∙ P .1 .2) (c .before .is-over .ensures) .0 (not-true _ (c .if1 .taken))
 
 sub-drop-points : tie.Need-sub-drop-points
 sub-drop-points c = search needs
@@ -34,37 +55,50 @@ part-drop-points-end : tie.Need-part-drop-points-end
 part-drop-points-end c = search needs
 
 cast-drop-points : tie.Need-cast-drop-points
-cast-drop-points c = omega (arith, leaving-words (c .before .before .before .before .before .before .before .args .w .now) (c .before .before .before .before .before .before .before .pre .0) (c .before .before .before .before .before .before .before .pre .1 .0) _ (c .before .before .before .before .before .before .before .pre .1 .1) (c .before .before .before .before .before .before .before .pre .1 .2) .3, jobs-sized (c .before .before .before .before .before .before .before .args .w .now) (c .before .before .before .before .before .before .before .pre .1 .0) _ (c .before .before .before .before .before .before .before .pre .1 .1) .points)
-
-live-count-requires : tie.Need-live-count-requires
-live-count-requires c κs = jobs-sized (c .before .before .before .before .before .before .before .args .w .now) (c .before .before .before .before .before .before .before .pre .1 .0) _ (c .before .before .before .before .before .before .before .pre .1 .1)
+cast-drop-points c = let A = c .before .before .before .before .before .before .before .before .before .args in
+    let P = c .before .before .before .before .before .before .before .before .before .pre in
+    omega (arith, leaving-words (A .w .now) (P .0) (P .1 .0) (P .1 .1) _ (c .before .before .before .before .read-job .ensures) .3, jobs-sized (A .w .now) (P .1 .0) .points)
 
 drop-points-requires : tie.Need-drop-points-requires
-drop-points-requires c κs = let l = leaving-words (c .before .before .before .before .before .before .before .before .args .w .now) (c .before .before .before .before .before .before .before .before .pre .0) (c .before .before .before .before .before .before .before .before .pre .1 .0) _ (c .before .before .before .before .before .before .before .before .pre .1 .1) (c .before .before .before .before .before .before .before .before .pre .1 .2) .3 in
-    let n = c .live-count .ensures in
-    (length-lent (c .before .before .before .before .before .before .before .before .args .w .now) (c .before .before .before .before .before .before .before .before .pre .0), omega (arith, l, n), omega (arith, n, jobs-sized (c .before .before .before .before .before .before .before .before .args .w .now) (c .before .before .before .before .before .before .before .before .pre .1 .0) _ (c .before .before .before .before .before .before .before .before .pre .1 .1) .points))
+drop-points-requires c κs = let A = c .before .before .before .before .before .before .before .before .before .args in
+    let P = c .before .before .before .before .before .before .before .before .before .pre in
+    let l = leaving-words (A .w .now) (P .0) (P .1 .0) (P .1 .1) _ (c .before .before .before .before .read-job .ensures) .3 in
+    let n = c .before .before .before .before .before .before .points-in .ensures in
+    (length-lent (A .w .now) (P .0), omega (arith, l, n), omega (arith, n, jobs-sized (A .w .now) (P .1 .0) .points))
 
 drop-oldest-requires : tie.Need-drop-oldest-requires
-drop-oldest-requires c κs = (c .before .before .before .before .before .before .before .before .before .before .before .before .pre .1 .2, jobs-sized (c .before .before .before .before .before .before .before .before .before .before .before .before .args .w .now) (c .before .before .before .before .before .before .before .before .before .before .before .before .pre .1 .0) _ (c .before .before .before .before .before .before .before .before .before .before .before .before .pre .1 .1) .count)
-
-put-front-requires : tie.Need-put-front-requires
-put-front-requires c κs = search needs
+drop-oldest-requires c κs = let A = c .before .before .before .before .before .before .before .before .before .before .before .before .before .args in
+    let P = c .before .before .before .before .before .before .before .before .before .before .before .before .before .pre in
+    let t = c .before .before .before .drop-points .last .0 in
+    let count = with-word (A .w .now) (P .0) t 3 (omega arith) in
+    (omega arith, omega (arith, count, P .1 .1), omega (arith, count, jobs-sized (A .w .now) (P .1 .0) .count), marks-kept (A .w .now) (P .1 .0) (P .0) t)
 
 stay-lines-requires : tie.Need-stay-lines-requires
-stay-lines-requires c κs = (search needs, (few-after (c .before .before .before .before .before .before .before .before .before .before .before .before .before .before .before .before .before .args .w .now) (c .before .before .before .before .before .before .before .before .before .before .before .before .before .before .before .before .before .pre .1 .0) (c .before .before .before .before .before .before .before .before .before .before .before .before .before .before .before .before .before .pre .0) (c .before .before .before .before .before .before .before .before .drop-points .last .0) _ (c .before .before .before .before .drop-oldest .result) (c .before .before .before .put-front .last .0) (c .before .before .before .put-front .ensures), omega (arith, leaving-words (c .before .before .before .before .before .before .before .before .before .before .before .before .before .before .before .before .before .args .w .now) (c .before .before .before .before .before .before .before .before .before .before .before .before .before .before .before .before .before .pre .0) (c .before .before .before .before .before .before .before .before .before .before .before .before .before .before .before .before .before .pre .1 .0) _ (c .before .before .before .before .before .before .before .before .before .before .before .before .before .before .before .before .before .pre .1 .1) (c .before .before .before .before .before .before .before .before .before .before .before .before .before .before .before .before .before .pre .1 .2) .3, jobs-sized (c .before .before .before .before .before .before .before .before .before .before .before .before .before .before .before .before .before .args .w .now) (c .before .before .before .before .before .before .before .before .before .before .before .before .before .before .before .before .before .pre .1 .0) _ (c .before .before .before .before .before .before .before .before .before .before .before .before .before .before .before .before .before .pre .1 .1) .points)))
+stay-lines-requires c κs = let A = c .before .before .before .before .before .before .before .before .before .before .before .before .before .before .before .before .before .args in
+    let P = c .before .before .before .before .before .before .before .before .before .before .before .before .before .before .before .before .before .pre in
+    let t = c .before .before .before .before .before .before .before .drop-points .last .0 in
+    let l = leaving-words (A .w .now) (P .0) (P .1 .0) (P .1 .1) _ (c .before .before .before .before .before .before .before .before .before .before .before .before .read-job .ensures) .3 in
+    let ex = fronted-kept (A .w .now) (P .1 .0) (P .0) t (λ (js : List Job). drop 1 js) _ (c .before .before .before .drop-oldest .ensures) in
+    (search needs, (few-after (A .w .now) (P .1 .0) (P .0) t _ (jobsFrom (drop 1 (jobsOf (heldJobs (wordIn (A .w .now)))))) (c .before .before .before .drop-oldest .last .0) ex, omega (arith, l, jobs-sized (A .w .now) (P .1 .0) .points)))
 
 same-length-2 : tie.Need-same-length-2
 same-length-2 c = search needs
 
 returns-2 : tie.Need-returns-2
-returns-2 c = retired-words (c .before .before .before .before .before .before .before .before .before .before .before .before .before .before .before .before .before .before .before .before .args .w .now) (c .before .before .before .before .before .before .before .before .before .before .before .before .before .before .before .before .before .before .before .before .pre .0) (c .before .before .before .before .before .before .before .before .before .before .before .before .before .before .before .before .before .before .before .before .pre .1 .0) _ (c .before .before .before .before .before .before .before .before .before .before .before .before .before .before .before .before .before .before .before .before .pre .1 .1) (c .before .before .before .before .before .before .before .before .before .before .before .before .before .before .before .before .before .before .before .before .pre .1 .2) _ (c .before .before .before .before .before .before .before .before .before .before .before .before .before .before .before .before .before .before .before .before .pre .1 .3) (c .before .before .before .before .before .before .before .before .before .before .before .before .before .before .before .is-over .ensures) .1 _ _ _ _ _ (not-false _ (c .before .before .before .before .before .before .before .before .before .before .before .before .before .before .if1 .left)) (c .before .before .before .before .before .before .before .drop-oldest .ensures) (c .before .before .before .before .before .before .before .before .before .before .before .before .live-count .ensures) (c .before .before .before .before .before .before .before .before .before .before .before .drop-points .ensures) (omega arith) (c .before .before .before .before .before .before .put-front .ensures) (c .before .before .stay-lines .ensures)
+returns-2 c = let A = c .before .before .before .before .before .before .before .before .before .before .before .before .before .before .before .before .before .before .before .before .args in
+    let P = c .before .before .before .before .before .before .before .before .before .before .before .before .before .before .before .before .before .before .before .before .pre in
+    let t = c .before .before .before .before .before .before .before .before .before .before .drop-points .last .0 in
+    let is = c .before .before .before .before .before .before .before .before .before .before .before .before .before .before .before .read-job .ensures in
+    retired-words (A .w .now) (P .0) (P .1 .0) (P .1 .1) _ is _ (ap (λ (j : Job). j .sent) is ∙ P .1 .2) (c .before .before .before .before .before .before .before .before .before .before .before .before .before .is-over .ensures) .1 _ t (c .before .before .before .before .before .before .drop-oldest .last .0) _ (not-false _ (c .before .before .before .before .before .before .before .before .before .before .before .before .if1 .left)) (add-one _ ∙ ap suc (c .before .before .before .before .before .before .before .before .before .before .before .before .before .before .before .before .before .points-in .ensures)) (c .before .before .before .before .before .before .before .before .before .before .drop-points .ensures) (omega arith) (fronted-kept (A .w .now) (P .1 .0) (P .0) t (λ (js : List Job). drop 1 js) _ (c .before .before .before .before .before .before .drop-oldest .ensures)) (c .before .before .stay-lines .ensures)
 
 pub retire-sent-spec : {M : Type 1} → statement M
 retire-sent-spec =
     tie.close
     (tie.spec
-    slice-read-clock
-    element-copy-out-oldest
+    points-in-requires
+    cast-n
+    add-n
+    read-job-requires
     is-over-requires
     same-length
     returns
@@ -72,10 +106,8 @@ retire-sent-spec =
     part-drop-points-start
     part-drop-points-end
     cast-drop-points
-    live-count-requires
     drop-points-requires
     drop-oldest-requires
-    put-front-requires
     stay-lines-requires
     same-length-2
     returns-2)

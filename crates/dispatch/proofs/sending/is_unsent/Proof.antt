@@ -3,14 +3,12 @@ use mathlib.Core.Bool.{not}
 use mathlib.Core.Path.{_≡_, sym, _∙_, ap}
 use native.Mathlib.Omega.{arith}
 use lib.ListN.{length}
-use lib.Seq.{getD-take}
 use borrow.Author.Needs.{needs}
 use Rattle.plain.specs.declared.Job.{Job}
-use Rattle.lines.specs.Held.{jobsOf, noJob}
-use Rattle.lines.proofs.Lists.{length-held}
+use Rattle.lines.specs.Held.{jobsOf}
 use Rattle.lines.proofs.JobLaws.{unsent-past, unsent-at}
-use Rattle.boardwords.specs.Words.{wordIn, jobAt, jobsRead, heldJobs}
-use Rattle.lists.proofs.Build.{build-length, build-at}
+use Rattle.boardwords.specs.Words.{wordIn, heldJobs}
+use Rattle.boardwords.proofs.Boards.{held-jobs, held-job}
 use Rattle.dispatch.proofs.sending.is_unsent.Statement.{statement}
 use Rattle.dispatch.proofs.sending.is_unsent.Tie as tie
 
@@ -24,7 +22,7 @@ returns : tie.Need-returns
 returns c =
     let A = c .before .before .before .args in
     let w = wordIn (A .w .now) in
-    let held : length (jobsOf (heldJobs w)) ≡ w 3 = length-held (w 3) (jobsRead w) (omega (arith, build-length (jobAt w) 16)) in
+    let held : length (jobsOf (heldJobs w)) ≡ w 3 = held-jobs w (omega arith) in
     unsent-past (jobsOf (heldJobs w)) (A .k) (omega (arith, held))
 
 mul-read-job : tie.Need-mul-read-job
@@ -40,8 +38,8 @@ returns-2 : tie.Need-returns-2
 returns-2 c =
     let A = c .before .before .before .before .before .args in
     let w = wordIn (A .w .now) in
-    let held : length (jobsOf (heldJobs w)) ≡ w 3 = length-held (w 3) (jobsRead w) (omega (arith, build-length (jobAt w) 16)) in
-    let there = getD-take (w 3) (jobsRead w) (A .k) noJob (omega arith) ∙ build-at (jobAt w) 16 (A .k) noJob (omega arith) in
+    let held : length (jobsOf (heldJobs w)) ≡ w 3 = held-jobs w (omega arith) in
+    let there = held-job w (omega arith) (A .k) (omega arith) in
     ap (λ (j : Job). not (j .sent)) (c .before .read-job .ensures ∙ sym there) ∙ unsent-at (jobsOf (heldJobs w)) (A .k) (omega (arith, held))
 
 pub is-unsent-spec : {M : Type 1} → statement M

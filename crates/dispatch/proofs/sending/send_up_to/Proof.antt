@@ -1,18 +1,41 @@
--- `send_up_to` meets its contract: each part of the board is what the definition says.
-use Prim.Native.Nat.{_-_}
+-- `send_up_to` meets its contract: table, jobs and lines are each what the definition says.
+use Prim.Native.Nat.{suc, _≤_, _+_}
+use mathlib.Core.Path.{subst, sym, _∙_, ap}
+use mathlib.Core.List.{List}
+use native.Mathlib.Numerals.{add-one}
+use Rattle.plain.specs.declared.Job.{Job}
+use Rattle.plain.specs.Plain.{total, unsentPoints, marked}
+use Rattle.lines.specs.declared.Jobs.{Jobs}
+use Rattle.lines.specs.Held.{jobsOf, jobsFrom}
+use Rattle.lines.specs.Asked.{Sized}
+use Rattle.settling.specs.Frozen.{frozen}
+use Rattle.boardwords.specs.Words.{wordIn, heldJobs}
+use Rattle.boardwords.proofs.Lent.{lentTable, length-lent, with-word}
+use Rattle.board.proofs.InWords.{points-asked, few-after, jobs-sized, closed-lent, marks-kept, fronted-kept}
+use Rattle.dispatch.proofs.Sent.{unsent-place, sent-words}
 use native.Mathlib.Omega.{arith}
 use borrow.Author.Needs.{needs}
-use Rattle.boardwords.proofs.Lent.{length-lent}
-use Rattle.board.proofs.InWords.{few-after, jobs-sized, closed-lent}
-use Rattle.dispatch.proofs.Sent.{unsent-place, sent-words}
 use Rattle.dispatch.proofs.sending.send_up_to.Statement.{statement}
 use Rattle.dispatch.proofs.sending.send_up_to.Tie as tie
 
-slice-read-clock : tie.Need-slice-read-clock
-slice-read-clock c = search needs
-
 add-count : tie.Need-add-count
-add-count c = omega (arith, unsent-place (c .before .before .args .w .now) (c .before .before .pre .0) (c .before .before .pre .1 .0) _ (c .before .before .pre .1 .1) (c .before .before .args .place) (c .before .before .pre .1 .2), jobs-sized (c .before .before .args .w .now) (c .before .before .pre .1 .0) _ (c .before .before .pre .1 .1) .count)
+add-count c = let A = c .before .args in
+    let P = c .before .pre in
+    omega (arith, unsent-place (A .w .now) (P .0) (P .1 .0) (A .place) (P .1 .1), jobs-sized (A .w .now) (P .1 .0) .count)
+
+points-in-requires : tie.Need-points-in-requires
+points-in-requires c κs =
+    let points = points-asked (c .before .before .args .w .now) (c .before .before .pre .1 .0) in
+    (search needs, points .0, points .1)
+
+cast-n : tie.Need-cast-n
+cast-n c = search needs
+
+add-n : tie.Need-add-n
+add-n c = search needs
+
+read-jobs-requires : tie.Need-read-jobs-requires
+read-jobs-requires c κs = search needs
 
 sub-freeze : tie.Need-sub-freeze
 sub-freeze c = search needs
@@ -23,41 +46,52 @@ part-freeze-start c = search needs
 part-freeze-end : tie.Need-part-freeze-end
 part-freeze-end c = search needs
 
-live-count-requires : tie.Need-live-count-requires
-live-count-requires c κs = jobs-sized (c .before .before .before .args .w .now) (c .before .before .before .pre .1 .0) _ (c .before .before .before .pre .1 .1)
-
 freeze-requires : tie.Need-freeze-requires
-freeze-requires c κs = let n = c .live-count .ensures in
-    ((length-lent (c .before .before .before .before .args .w .now) (c .before .before .before .before .pre .0), n, closed-lent (c .before .before .before .before .args .w .now) (c .before .before .before .before .pre .1 .0) _ (c .before .before .before .before .pre .1 .1) (c .before .before .before .before .pre .0) _ n), (jobs-sized (c .before .before .before .before .args .w .now) (c .before .before .before .before .pre .1 .0) _ (c .before .before .before .before .pre .1 .1), omega (arith, unsent-place (c .before .before .before .before .args .w .now) (c .before .before .before .before .pre .0) (c .before .before .before .before .pre .1 .0) _ (c .before .before .before .before .pre .1 .1) (c .before .before .before .before .args .place) (c .before .before .before .before .pre .1 .2))))
+freeze-requires c κs = let A = c .before .before .before .before .before .before .args in
+    let P = c .before .before .before .before .before .before .pre in
+    let n = add-one _ ∙ ap suc (c .before .before .before .points-in .ensures) in
+    let is = c .before .read-jobs .ensures in
+    ((length-lent (A .w .now) (P .0), n ∙ ap (λ (j : Jobs). suc (total (jobsOf j))) (sym is), closed-lent (A .w .now) (P .1 .0) (P .0) _ n), (subst Sized (sym is) (jobs-sized (A .w .now) (P .1 .0)), subst (λ (j : Jobs). A .place + 1 ≤ j .count) (sym is) (unsent-place (A .w .now) (P .0) (P .1 .0) (A .place) (P .1 .1))))
 
 mark-sent-requires : tie.Need-mark-sent-requires
-mark-sent-requires c κs = (omega (arith, unsent-place (c .before .before .before .before .before .before .before .before .args .w .now) (c .before .before .before .before .before .before .before .before .pre .0) (c .before .before .before .before .before .before .before .before .pre .1 .0) _ (c .before .before .before .before .before .before .before .before .pre .1 .1) (c .before .before .before .before .before .before .before .before .args .place) (c .before .before .before .before .before .before .before .before .pre .1 .2)), jobs-sized (c .before .before .before .before .before .before .before .before .args .w .now) (c .before .before .before .before .before .before .before .before .pre .1 .0) _ (c .before .before .before .before .before .before .before .before .pre .1 .1) .count)
-
-put-front-requires : tie.Need-put-front-requires
-put-front-requires c κs = search needs
+mark-sent-requires c κs = let A = c .before .before .before .before .before .before .before .before .before .before .args in
+    let P = c .before .before .before .before .before .before .before .before .before .before .pre in
+    let t = c .before .before .before .freeze .last .0 in
+    let count = with-word (A .w .now) (P .0) t 3 (omega arith) in
+    (omega arith, omega (arith, count, unsent-place (A .w .now) (P .0) (P .1 .0) (A .place) (P .1 .1)), omega (arith, count, jobs-sized (A .w .now) (P .1 .0) .count), marks-kept (A .w .now) (P .1 .0) (P .0) t)
 
 tidy-lines-requires : tie.Need-tidy-lines-requires
-tidy-lines-requires c κs = (search needs, few-after (c .before .before .before .before .before .before .before .before .before .before .before .before .before .args .w .now) (c .before .before .before .before .before .before .before .before .before .before .before .before .before .pre .1 .0) (c .before .before .before .before .before .before .before .before .before .before .before .before .before .pre .0) (c .before .before .before .before .before .before .before .before .freeze .last .0) _ (c .before .before .before .before .mark-sent .result) (c .before .before .before .put-front .last .0) (c .before .before .before .put-front .ensures))
+tidy-lines-requires c κs = let A = c .before .before .before .before .before .before .before .before .before .before .before .before .before .before .args in
+    let P = c .before .before .before .before .before .before .before .before .before .before .before .before .before .before .pre in
+    let t = c .before .before .before .before .before .before .before .freeze .last .0 in
+    let ex = fronted-kept (A .w .now) (P .1 .0) (P .0) t (λ (js : List Job). marked (A .place + 1) js) _ (c .before .before .before .mark-sent .ensures) in
+    (search needs, few-after (A .w .now) (P .1 .0) (P .0) t _ (jobsFrom (marked (A .place + 1) (jobsOf (heldJobs (wordIn (A .w .now)))))) (c .before .before .before .mark-sent .last .0) ex)
 
 same-length : tie.Need-same-length
 same-length c = search needs
 
 returns : tie.Need-returns
-returns c = sent-words (c .before .before .before .before .before .before .before .before .before .before .before .before .before .before .before .before .args .w .now) (c .before .before .before .before .before .before .before .before .before .before .before .before .before .before .before .before .pre .0) (c .before .before .before .before .before .before .before .before .before .before .before .before .before .before .before .before .pre .1 .0) _ (c .before .before .before .before .before .before .before .before .before .before .before .before .before .before .before .before .pre .1 .1) (c .before .before .before .before .before .before .before .before .before .before .before .before .before .before .before .before .args .place) _ _ _ _ _ (c .before .before .before .before .before .before .before .before .before .before .before .before .before .before .before .before .pre .1 .2) (c .before .before .before .before .before .before .before .mark-sent .ensures) (c .before .before .before .before .before .before .before .before .before .before .before .before .live-count .ensures) (c .before .before .before .before .before .before .before .before .before .before .before .freeze .ensures) (omega arith) (c .before .before .before .before .before .before .put-front .ensures) (c .before .before .tidy-lines .ensures)
+returns c = let A = c .before .before .before .before .before .before .before .before .before .before .before .before .before .before .before .before .before .args in
+    let P = c .before .before .before .before .before .before .before .before .before .before .before .before .before .before .before .before .before .pre in
+    let t = c .before .before .before .before .before .before .before .before .before .before .freeze .last .0 in
+    let n = add-one _ ∙ ap suc (c .before .before .before .before .before .before .before .before .before .before .before .before .before .before .points-in .ensures) in
+    let et = c .before .before .before .before .before .before .before .before .before .before .freeze .ensures ∙ ap (λ (j : Jobs). frozen (c .before .before .before .before .before .before .before .before .before .before .before .before .before .before .points-in .result + 1) (unsentPoints 1 (A .place + 1) (jobsOf j)) (lentTable (A .w .now))) (c .before .before .before .before .before .before .before .before .before .before .before .before .read-jobs .ensures) in
+    sent-words (A .w .now) (P .0) (P .1 .0) (A .place) (P .1 .1) _ t (c .before .before .before .before .before .before .mark-sent .last .0) _ n et (omega arith) (fronted-kept (A .w .now) (P .1 .0) (P .0) t (λ (js : List Job). marked (A .place + 1) js) _ (c .before .before .before .before .before .before .mark-sent .ensures)) (c .before .before .tidy-lines .ensures)
 
 pub send-up-to-spec : {M : Type 1} → statement M
 send-up-to-spec =
     tie.close
     (tie.spec
-    slice-read-clock
     add-count
+    points-in-requires
+    cast-n
+    add-n
+    read-jobs-requires
     sub-freeze
     part-freeze-start
     part-freeze-end
-    live-count-requires
     freeze-requires
     mark-sent-requires
-    put-front-requires
     tidy-lines-requires
     same-length
     returns)

@@ -1,16 +1,16 @@
 -- `draft` meets its contract: 14, a stop of placing, or the job joins. That it is not 14 bounds the number of points.
-use Prim.Native.Nat.{_+_, _≤_}
-use mathlib.Core.Path.{_≡_, refl, sym, _∙_}
-use lib.ListN.{length, length-take}
-use native.Mathlib.Omega.{arith}
-use borrow.Author.Needs.{needs}
+use lib.ListN.{length-take, length}
 use Rattle.plain.specs.Plain.{liveCount}
 use Rattle.lines.specs.Held.{stepsOf, stateOf, heldOffer}
 use Rattle.lines.proofs.Lists.{length-held, length-mapped}
 use Rattle.lines.proofs.DraftLaws.{within}
 use Rattle.rulings.specs.Answer.{plain}
-use Rattle.boardwords.specs.Words.{wordIn, linesRead}
+use Rattle.boardwords.specs.Words.{wordIn, heldJobs, linesRead}
 use Rattle.drafts.proofs.DraftLaws.{drafted-full, start-room, drafted-stop, drafted-made, stops-as}
+use Prim.Native.Nat.{_≤_, _+_}
+use mathlib.Core.Path.{_≡_, refl, sym, _∙_}
+use native.Mathlib.Omega.{arith}
+use borrow.Author.Needs.{needs}
 use Rattle.drafts.proofs.drafting.draft.Statement.{statement}
 use Rattle.drafts.proofs.drafting.draft.Tie as tie
 
@@ -27,46 +27,48 @@ refused-requires : tie.Need-refused-requires
 refused-requires c κs = search needs
 
 returns : tie.Need-returns
-returns c =
-    let entry = c .before .before .before .before .before in (
-      λ H.
-          let A = entry .args in
-          let v = linesRead (wordIn (A .w .now)) in
-          let s = stateOf (A .jobs) v (A .clock) H (A .lead) in
-          let o = heldOffer (A .batch) (A .steps) (A .puts) in
-          let len : length (A .steps .steps) ≡ 8 = search (needs, length-mapped, entry .good .1 .1 .1 .1 .1 .0) in
-          let size = length-held (A .steps .count) (A .steps .steps) (omega (arith, entry .pre .1 .4)) in
-          stops-as (c .refused .result) _ _ (plain 14) (c .refused .ensures)
-          (drafted-full s o (A .steps .count) (sym size) (sym (c .before .before .is-full .ensures s refl) ∙ c .before .if1 .taken)),
-      entry .pre .1 .1,
-    )
-
-points-requires : tie.Need-points-requires
-points-requires c κs = search needs
+returns c = let entry = c .before .before .before .before .before .before in (
+  λ H.
+      let A = entry .args in
+      let v = wordIn (A .w .now) in
+      let s = stateOf (heldJobs v) (linesRead (wordIn (A .next .now))) (v 2) H (v 1) in
+      let o = heldOffer (A .batch) (A .steps) (A .puts) in
+      let len : length (A .steps .steps) ≡ 8 = search (needs, length-mapped, entry .good .1 .1 .1 .1 .0) in
+      let size = length-held (A .steps .count) (A .steps .steps) (omega (arith, entry .pre .1 .1 .1)) in
+      stops-as (c .refused .result) _ _ (plain 14) (c .refused .ensures)
+      (drafted-full s o (A .steps .count) (sym size) (sym (c .before .before .is-full .ensures s refl) ∙ c .before .if1 .taken)),
+  entry .pre .1 .1 .0,
+)
 
 add-first : tie.Need-add-first
 add-first c = search needs
+
+shared-slice-read-begin-rules : tie.Need-shared-slice-read-begin-rules
+shared-slice-read-begin-rules c = search needs
+
+shared-slice-read-begin-rules-2 : tie.Need-shared-slice-read-begin-rules-2
+shared-slice-read-begin-rules-2 c = search needs
 
 add-begin-rules : tie.Need-add-begin-rules
 add-begin-rules c = search needs
 
 begin-rules-requires : tie.Need-begin-rules-requires
-begin-rules-requires c κs =
-    let entry = c .before .before .before .before .before in
+begin-rules-requires c κs = let entry = c .before .before .before .before .before .before .before in
     let A = entry .args in
-    let s = stateOf (A .jobs) (linesRead (wordIn (A .w .now))) (A .clock) 0 (A .lead) in
-    let fits = within s (A .steps .count + 1) (sym (c .before .before .is-full .ensures s refl) ∙ c .before .if1 .left) in
-    (omega (arith, c .points .ensures, fits .1), entry .pre .1 .4)
+    let v = wordIn (A .w .now) in
+    let s = stateOf (heldJobs v) (linesRead (wordIn (A .next .now))) (v 2) 0 (v 1) in
+    let fits = within s (A .steps .count + 1) (sym (c .before .before .before .is-full .ensures s refl) ∙ c .before .before .if1 .left) in
+    (omega (arith, entry .pre .1 .0 .1, fits .1), entry .pre .1 .1 .1)
 
 place-all-requires : tie.Need-place-all-requires
-place-all-requires c κs =
-    let entry = c .before .before .before .before .before .before .before in
+place-all-requires c κs = let entry = c .before .before .before .before .before .before .before .before .before in
     let A = entry .args in
-    let s = stateOf (A .jobs) (linesRead (wordIn (A .w .now))) (A .clock) 0 (A .lead) in
-    let fits = within s (A .steps .count + 1) (sym (c .before .before .before .before .is-full .ensures s refl) ∙ c .before .before .before .if1 .left) in
-    let few : length (stepsOf (A .steps)) ≤ 8 = omega (arith, entry .pre .1 .4, length-take (A .steps .count) (A .steps .steps)) in (
-      entry .pre .0,
-      (omega (arith, c .before .before .points .ensures, fits .1), entry .pre .1 .5, entry .pre .1 .1, start-room _ _ (stepsOf (A .steps)) (c .before .begin-rules .result) few (c .before .begin-rules .ensures)),
+    let v = wordIn (A .w .now) in
+    let s = stateOf (heldJobs v) (linesRead (wordIn (A .next .now))) (v 2) 0 (v 1) in
+    let fits = within s (A .steps .count + 1) (sym (c .before .before .before .before .before .is-full .ensures s refl) ∙ c .before .before .before .before .if1 .left) in
+    let few : length (stepsOf (A .steps)) ≤ 8 = omega (arith, entry .pre .1 .1 .1, length-take (A .steps .count) (A .steps .steps)) in (
+      entry .pre .0 .0,
+      (omega (arith, entry .pre .1 .0 .1, fits .1), entry .pre .1 .1 .2, entry .pre .1 .1 .0, start-room _ _ (stepsOf (A .steps)) (c .before .begin-rules .result) few (c .before .begin-rules .ensures)),
     )
 
 enum-known-ruling : tie.Need-enum-known-ruling
@@ -80,25 +82,23 @@ same-length c = search needs
 
 returns-2 : tie.Need-returns-2
 unfolding liveCount
-returns-2 c =
-    let entry = c .before .before .before .before .before .before .before .before .before .before .before .before .before .before in (
-      λ H.
-          let A = entry .args in
-          let v = linesRead (wordIn (A .w .now)) in
-          let s = stateOf (A .jobs) v (A .clock) H (A .lead) in
-          let o = heldOffer (A .batch) (A .steps) (A .puts) in
-          let len : length (A .steps .steps) ≡ 8 = search (needs, length-mapped, entry .good .1 .1 .1 .1 .1 .0) in
-          let size = length-held (A .steps .count) (A .steps .steps) (omega (arith, entry .pre .1 .4)) in
-          let few : length (stepsOf (A .steps)) ≤ 8 = omega (arith, entry .pre .1 .4, size) in
-          let x = c .before .before .before .before .before .before .before .before .before .points .result + 1 in
-          let first : x ≡ liveCount s = omega (arith, c .before .before .before .before .before .before .before .before .before .points .ensures) in
-          let not-full = sym (c .before .before .before .before .before .before .before .before .before .before .before .is-full .ensures s refl) ∙ c .before .before .before .before .before .before .before .before .before .before .if1 .left in
-          let began = c .before .before .before .before .before .before .before .before .begin-rules in
-          let placing = c .before .before .before .before .before .before .place-all in
-          stops-as (c .refused2 .result) _ _ _ (c .refused2 .ensures)
-          (drafted-stop s o x (A .steps .count) first (sym size) not-full few (began .result) (began .ensures) (placing .result .ruling) _ (placing .result .rules) (placing .ensures .0) _ (c .before .before .ruling .given .1)),
-      c .before .before .before .before .before .before .place-all .ensures .1 .0,
-    )
+returns-2 c = let entry = c .before .before .before .before .before .before .before .before .before .before .before .before .before .before .before .before in (
+  λ H.
+      let A = entry .args in
+      let v = wordIn (A .w .now) in
+      let s = stateOf (heldJobs v) (linesRead (wordIn (A .next .now))) (v 2) H (v 1) in
+      let o = heldOffer (A .batch) (A .steps) (A .puts) in
+      let len : length (A .steps .steps) ≡ 8 = search (needs, length-mapped, entry .good .1 .1 .1 .1 .0) in
+      let size = length-held (A .steps .count) (A .steps .steps) (omega (arith, entry .pre .1 .1 .1)) in
+      let few : length (stepsOf (A .steps)) ≤ 8 = omega (arith, entry .pre .1 .1 .1, size) in
+      let first : A .n + 1 ≡ liveCount s = omega (arith, entry .pre .1 .0 .1) in
+      let not-full = sym (c .before .before .before .before .before .before .before .before .before .before .before .before .is-full .ensures s refl) ∙ c .before .before .before .before .before .before .before .before .before .before .before .if1 .left in
+      let began = c .before .before .before .before .before .before .before .before .begin-rules in
+      let placing = c .before .before .before .before .before .before .place-all in
+      stops-as (c .refused2 .result) _ _ _ (c .refused2 .ensures)
+      (drafted-stop s o (A .n + 1) (A .steps .count) first (sym size) not-full few (began .result) (began .ensures) (placing .result .ruling) _ (placing .result .rules) (placing .ensures .0) _ (c .before .before .ruling .given .1)),
+  c .before .before .before .before .before .before .place-all .ensures .1 .0,
+)
 
 enum-told : tie.Need-enum-told
 enum-told c = search needs
@@ -109,42 +109,28 @@ add-add-batch c = search needs
 add-batch-requires : tie.Need-add-batch-requires
 add-batch-requires c κs = search needs
 
-add-t18 : tie.Need-add-t18
-add-t18 c = search needs
-
-add-job-requires : tie.Need-add-job-requires
-add-job-requires c κs =
-    let entry = c .before .before .before .before .before .before .before .before .before .before .before .before .before .before in
-    let A = entry .args in
-    let s = stateOf (A .jobs) (linesRead (wordIn (A .w .now))) (A .clock) 0 (A .lead) in
-    let fits = within s (A .steps .count + 1) (sym (c .before .before .before .before .before .before .before .before .before .before .before .is-full .ensures s refl) ∙ c .before .before .before .before .before .before .before .before .before .before .if1 .left) in
-    let len : length (A .jobs .jobs) ≡ 16 = search (needs, length-mapped, entry .good .1 .0) in
-    omega (arith, fits .0, length-held (A .jobs .count) (A .jobs .jobs) (omega (arith, entry .pre .1 .0 .count)))
-
 same-length-2 : tie.Need-same-length-2
 same-length-2 c = search needs
 
 returns-3 : tie.Need-returns-3
 unfolding liveCount
-returns-3 c =
-    let entry = c .before .before .before .before .before .before .before .before .before .before .before .before .before .before .before in (
-      λ H.
-          let A = entry .args in
-          let v = linesRead (wordIn (A .w .now)) in
-          let s = stateOf (A .jobs) v (A .clock) H (A .lead) in
-          let o = heldOffer (A .batch) (A .steps) (A .puts) in
-          let len : length (A .steps .steps) ≡ 8 = search (needs, length-mapped, entry .good .1 .1 .1 .1 .1 .0) in
-          let size = length-held (A .steps .count) (A .steps .steps) (omega (arith, entry .pre .1 .4)) in
-          let few : length (stepsOf (A .steps)) ≤ 8 = omega (arith, entry .pre .1 .4, size) in
-          let x = c .before .before .before .before .before .before .before .before .before .before .points .result + 1 in
-          let first : x ≡ liveCount s = omega (arith, c .before .before .before .before .before .before .before .before .before .before .points .ensures) in
-          let not-full = sym (c .before .before .before .before .before .before .before .before .before .before .before .before .is-full .ensures s refl) ∙ c .before .before .before .before .before .before .before .before .before .before .before .if1 .left in
-          let began = c .before .before .before .before .before .before .before .before .before .begin-rules in
-          let placing = c .before .before .before .before .before .before .before .place-all in
-          drafted-made s o x (A .steps .count) first (sym size) not-full few (began .result) (began .ensures) (placing .result .ruling) _ (placing .result .rules) (placing .ensures .0)
-          _ (c .add-job .result) (c .before .add-batch .result) (c .before .before .before .enum-told .given .1) (placing .ensures .1 .0 .tidy) (c .add-job .ensures) (c .before .add-batch .ensures),
-      c .before .before .before .before .before .before .before .place-all .ensures .1 .0,
-    )
+returns-3 c = let entry = c .before .before .before .before .before .before .before .before .before .before .before .before .before .before .before .before in (
+  λ H.
+      let A = entry .args in
+      let v = wordIn (A .w .now) in
+      let s = stateOf (heldJobs v) (linesRead (wordIn (A .next .now))) (v 2) H (v 1) in
+      let o = heldOffer (A .batch) (A .steps) (A .puts) in
+      let len : length (A .steps .steps) ≡ 8 = search (needs, length-mapped, entry .good .1 .1 .1 .1 .0) in
+      let size = length-held (A .steps .count) (A .steps .steps) (omega (arith, entry .pre .1 .1 .1)) in
+      let few : length (stepsOf (A .steps)) ≤ 8 = omega (arith, entry .pre .1 .1 .1, size) in
+      let first : A .n + 1 ≡ liveCount s = omega (arith, entry .pre .1 .0 .1) in
+      let not-full = sym (c .before .before .before .before .before .before .before .before .before .before .before .before .is-full .ensures s refl) ∙ c .before .before .before .before .before .before .before .before .before .before .before .if1 .left in
+      let began = c .before .before .before .before .before .before .before .before .begin-rules in
+      let placing = c .before .before .before .before .before .before .place-all in
+      drafted-made s o (A .n + 1) (A .steps .count) first (sym size) not-full few (began .result) (began .ensures) (placing .result .ruling) _ (placing .result .rules) (placing .ensures .0)
+      _ (c .add-batch .result) (c .before .before .enum-told .given .1) (placing .ensures .1 .0 .tidy) (c .add-batch .ensures),
+  c .before .before .before .before .before .before .place-all .ensures .1 .0,
+)
 
 pub draft-spec : {M : Type 1} → statement M
 draft-spec =
@@ -155,8 +141,9 @@ draft-spec =
     is-full-requires
     refused-requires
     returns
-    points-requires
     add-first
+    shared-slice-read-begin-rules
+    shared-slice-read-begin-rules-2
     add-begin-rules
     begin-rules-requires
     place-all-requires
@@ -167,7 +154,5 @@ draft-spec =
     enum-told
     add-add-batch
     add-batch-requires
-    add-t18
-    add-job-requires
     same-length-2
     returns-3)

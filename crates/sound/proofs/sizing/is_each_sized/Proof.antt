@@ -9,7 +9,7 @@ use Rattle.lines.specs.Held.{jobsOf}
 use Rattle.boardwords.specs.Words.{wordIn, heldJobs}
 use Rattle.sound.specs.Sound.{allOf, sizedJob}
 use Rattle.sound.proofs.Flags.{all-next, all-end}
-use Rattle.sound.proofs.InWords.{job-next, job-over}
+use Rattle.boardwords.proofs.Boards.{job-next, job-over}
 use Rattle.sound.proofs.sizing.is_each_sized.Statement.{statement}
 use Rattle.sound.proofs.sizing.is_each_sized.Tie as tie
 

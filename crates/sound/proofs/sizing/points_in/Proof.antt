@@ -10,7 +10,7 @@ use Rattle.lines.specs.Held.{jobsOf}
 use Rattle.boardwords.specs.Words.{wordIn, heldJobs}
 use Rattle.sound.specs.Sound.{allOf, sizedJob}
 use Rattle.sound.proofs.Soundness.{sized-next}
-use Rattle.sound.proofs.InWords.{job-next, job-over}
+use Rattle.boardwords.proofs.Boards.{job-next, job-over}
 use Rattle.sound.proofs.sizing.points_in.Statement.{statement}
 use Rattle.sound.proofs.sizing.points_in.Tie as tie
 

@@ -1,0 +1,46 @@
+-- `put_clock` meets its contract: the clock is stored, and all words behind the jobs are cleared (`clock-front`).
+use native.Mathlib.Omega.{arith}
+use lib.ListN.{length-set}
+use borrow.Author.Needs.{needs}
+use Rattle.jobwords.proofs.Fronts.{stored-length, clock-front}
+use Rattle.jobwords.proofs.changing.put_clock.Statement.{statement}
+use Rattle.jobwords.proofs.changing.put_clock.Tie as tie
+
+slice-read-count : tie.Need-slice-read-count
+slice-read-count c = search needs
+
+cast-count : tie.Need-cast-count
+cast-count c = search needs
+
+slice-write-w : tie.Need-slice-write-w
+slice-write-w c = search needs
+
+mul-clear : tie.Need-mul-clear
+mul-clear c = search needs
+
+add-clear : tie.Need-add-clear
+add-clear c = search needs
+
+clear-requires : tie.Need-clear-requires
+clear-requires c κs = simp length-set (omega arith, omega arith)
+
+same-length : tie.Need-same-length
+same-length c = omega (arith, stored-length (c .before .before .before .before .before .before .args .w .now) _ 2 _ _ _ (c .before .before .clear .ensures))
+
+returns : tie.Need-returns
+returns c =
+    let A = c .before .before .before .before .before .before .args in
+    clock-front (A .w .now) _ (A .clock) (omega arith) (omega arith) (c .before .before .before .before .before .before .pre .2) (c .before .before .clear .ensures)
+
+pub put-clock-spec : {M : Type 1} → statement M
+put-clock-spec =
+    tie.close
+    (tie.spec
+    slice-read-count
+    cast-count
+    slice-write-w
+    mul-clear
+    add-clear
+    clear-requires
+    same-length
+    returns)
