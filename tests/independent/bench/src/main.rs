@@ -92,13 +92,10 @@ fn main() {
     let mut rows = check_rows();
     let cases = board_cases(&work);
     rows.extend(cases.iter().map(|case| board_row(case, case.later_call())));
-    show::table(&rows);
-    println!();
-    let small = cases.iter().filter(|case| case.jobs == 1);
-    let firsts: Vec<TableRow> = small
-        .map(|case| board_row(case, case.first_call()))
-        .collect();
-    show::first_calls(&firsts);
-    println!();
+    show::table("microseconds a call, in a row", &rows);
+    let firsts = cases.iter().map(|case| board_row(case, case.first_call()));
+    let firsts: Vec<TableRow> = firsts.collect();
+    show::table("the first call after other work", &firsts);
+    show::legend();
     show::chart(&chart_rows(&work));
 }

@@ -1,4 +1,4 @@
-//! What is printed: the table of times, and the chart of how plan grows.
+//! What is printed: the tables of times, and the chart of how plan grows.
 
 /// Above this, ours is marked.
 const GOAL: f64 = 1.20;
@@ -43,8 +43,12 @@ fn three_digits(time: f64) -> String {
     format!("{time:.places$}")
 }
 
-pub fn table(rows: &[TableRow]) {
-    println!("microseconds a call, in a row        ours  incremental   windows   scratch    ratio");
+/// A table under its title, a call's rows together.
+pub fn table(title: &str, rows: &[TableRow]) {
+    println!(
+        "{title:32} {:>7} {:>12} {:>9} {:>9} {:>8}",
+        "ours", "incremental", "windows", "scratch", "ratio"
+    );
     let mut call = "";
     for row in rows {
         if row.call != call {
@@ -54,17 +58,13 @@ pub fn table(rows: &[TableRow]) {
         let mark = if row.ratio() > GOAL { " <" } else { "" };
         println!("{}{mark}", row.text());
     }
-    println!(
-        "\nratio: ours to the faster of incremental and scratch; < where it is above {GOAL:.2}"
-    );
+    println!();
 }
 
-/// The same for the first call of a turn.
-pub fn first_calls(rows: &[TableRow]) {
+pub fn legend() {
     println!(
-        "the first call after other work      ours  incremental   windows   scratch    ratio\n"
+        "ratio: ours to the faster of incremental and scratch; < where it is above {GOAL:.2}\n"
     );
-    rows.iter().for_each(|row| println!("{}", row.text()));
 }
 
 /// Live points before the call, microseconds of ours and of scratch.

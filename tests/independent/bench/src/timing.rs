@@ -1,6 +1,10 @@
 //! How a call is timed on all forms: in turns, each call on a board of its own that was prepared
 //! outside the timed part. The first call of a turn, which comes after other work, is timed apart from
 //! those behind it. A form's time is the median of its turns.
+//!
+//! What a first call costs depends on what went before it. The forms in Rust share the reading of plant
+//! and offer: where one follows another on the same call, it finds that code at hand. So a form takes its
+//! turns of all calls before the next form does, and the same other work comes before every turn.
 
 use crate::forms::{Call, Form, Incremental};
 use crate::ours::Ours;
@@ -13,6 +17,31 @@ use std::time::Instant;
 /// The calls of a turn: enough that reading the clock counts little, few enough that other work on
 /// the machine seldom falls into a turn.
 const CALLS_A_TURN: usize = 4;
+const FORMS: usize = 4;
+
+/// The bytes read before a turn: more than the nearer caches hold. The boards of the turn are copied behind
+/// it, so that they are at hand; code, stack and arguments are not.
+const OTHER_BYTES: usize = 4 * 1024 * 1024;
+/// The bytes that a cache takes at a time.
+const CACHE_LINE: usize = 64;
+
+/// Work that has nothing to do with any form.
+struct OtherWork {
+    bytes: Vec<u8>,
+}
+
+impl OtherWork {
+    fn new() -> Self {
+        OtherWork {
+            bytes: vec![1; OTHER_BYTES],
+        }
+    }
+
+    fn run(&self) {
+        let lines = black_box(&self.bytes).iter().step_by(CACHE_LINE);
+        black_box(lines.fold(0_u8, |sum, &byte| sum.wrapping_add(byte)));
+    }
+}
 
 /// The nanoseconds of a turn.
 #[derive(Clone, Copy)]
@@ -45,6 +74,19 @@ impl<F: Form> Column<F> {
         (board.make(call), board)
     }
 
+    /// The median of a number that each turn has.
+    fn microseconds(&self, number: impl Fn(Turn) -> f64) -> f64 {
+        let mut times: Vec<f64> = self.turns.iter().copied().map(number).collect();
+        median(&mut times) / 1_000.0
+    }
+}
+
+/// A column of any form.
+trait TakesTurns {
+    fn take_turn(&mut self, call: &Call);
+}
+
+impl<F: Form> TakesTurns for Column<F> {
     fn take_turn(&mut self, call: &Call) {
         for board in &mut self.boards {
             board.clone_from(&self.before);
@@ -60,12 +102,6 @@ impl<F: Form> Column<F> {
         boards.for_each(make);
         let later = (nanoseconds(start) - first) / (CALLS_A_TURN as f64 - 1.0);
         self.turns.push(Turn { first, later });
-    }
-
-    /// The median of a number that each turn has.
-    fn microseconds(&self, number: impl Fn(Turn) -> f64) -> f64 {
-        let mut times: Vec<f64> = self.turns.iter().copied().map(number).collect();
-        median(&mut times) / 1_000.0
     }
 }
 
@@ -108,24 +144,28 @@ impl Case {
         case
     }
 
-    pub fn take_turns(&mut self) {
-        self.ours.take_turn(&self.call);
-        self.incremental.take_turn(&self.call);
-        self.windows.take_turn(&self.call);
-        self.scratch.take_turn(&self.call);
+    /// The turn of one form.
+    fn take_turn(&mut self, form: usize) {
+        let columns: [&mut dyn TakesTurns; FORMS] = [
+            &mut self.ours,
+            &mut self.incremental,
+            &mut self.windows,
+            &mut self.scratch,
+        ];
+        columns[form].take_turn(&self.call);
     }
 
     /// Microseconds of a call behind others of its kind: ours, incremental, windows, scratch.
-    pub fn later_call(&self) -> [f64; 4] {
+    pub fn later_call(&self) -> [f64; FORMS] {
         self.of_forms(|turn| turn.later)
     }
 
     /// Microseconds of the first call of a turn.
-    pub fn first_call(&self) -> [f64; 4] {
+    pub fn first_call(&self) -> [f64; FORMS] {
         self.of_forms(|turn| turn.first)
     }
 
-    fn of_forms(&self, number: impl Fn(Turn) -> f64 + Copy) -> [f64; 4] {
+    fn of_forms(&self, number: impl Fn(Turn) -> f64 + Copy) -> [f64; FORMS] {
         [
             self.ours.microseconds(number),
             self.incremental.microseconds(number),
@@ -135,9 +175,15 @@ impl Case {
     }
 }
 
-/// Lets every case take its turns, one after the other, so many rounds.
+/// Lets every form take its turns of all cases, so many rounds.
 pub fn run(cases: &mut [Case], rounds: usize) {
+    let other = OtherWork::new();
     for _ in 0..rounds {
-        cases.iter_mut().for_each(Case::take_turns);
+        for form in 0..FORMS {
+            for case in &mut *cases {
+                other.run();
+                case.take_turn(form);
+            }
+        }
     }
 }
