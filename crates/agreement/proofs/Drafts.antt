@@ -27,7 +27,8 @@ use Rattle.plain.specs.Plain.{
   joining,
   drafted,
 }
-use Rattle.lines.proofs.Placing.{lineFor, linesWith, rulesFor, placed-keeps}
+use Rattle.lines.specs.Placing.{lineFor, linesWith}
+use Rattle.lines.proofs.Placing.{rulesFor, placed-keeps}
 use Rattle.lines.proofs.LineLaws.{length-inserted}
 use Rattle.lines.proofs.DraftLaws.{within}
 use Rattle.lists.specs.All.{All}

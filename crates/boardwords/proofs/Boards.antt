@@ -1,6 +1,7 @@
 -- Boards of the same words. Assumes nothing.
 --   no-line-is       a line that holds 0 everywhere is that of the words 0
---   line-of          a line of the lines that words hold;  held-size, held-use: how many uses it holds, and which
+--   line-of          a line of the lines that words hold;  line-count, line-held: its count, and what it holds
+--   held-size, held-use  how many uses a line holds, and which
 --   held-jobs, held-job  how many jobs words hold, and which;  job-next, job-over: what is left of them, after k
 --   same-line, same-lines, job-same   equal words give equal lines, and an equal job
 --   same-marks, same-jobs   equal words below 52 give equal marks and jobs
@@ -11,13 +12,14 @@ use mathlib.Core.Path.{_≡_, refl, sym, _∙_, ap}
 use mathlib.Core.Bool.{true, false}
 use mathlib.Core.List.{List, [], _∷_}
 use native.Mathlib.Omega.{arith}
-use lib.ListN.{length, getD, drop, replicate}
+use lib.ListN.{length, getD, drop, replicate, List·getD-map}
 use borrow.Author.Tests.{eq-eqb, ne-eqb}
 use lib.Seq.{getD-take}
 use Rattle.plain.specs.declared.Job.{Job}
 use Rattle.plain.specs.declared.Use.{Use}
 use Rattle.plain.specs.Plain.{noUse}
-use Rattle.lines.specs.Held.{jobsOf, lineOf, noJob, noLine}
+use Rattle.lines.specs.declared.Line.{Line}
+use Rattle.lines.specs.Held.{jobsOf, lineOf, linesOf, noJob, noLine}
 use Rattle.lines.proofs.Lists.{length-held, held-next, held-over}
 use Rattle.lists.specs.Loops.{build}
 use Rattle.lists.proofs.AllBelow.{allBelow-same}
@@ -50,6 +52,12 @@ module _ (w : Words) (few : w 3 ≤ 16) where
 
 pub line-of : (w : Words) (r : ℕ) → r < 16 → getD (linesRead w) r noLine ≡ lineAt w r
 line-of w r h = build-at (lineAt w) 16 r noLine h
+
+pub line-count : (w : Words) (r : ℕ) → r < 16 → getD (linesRead w) r noLine .count ≡ w (52 + 97 * r)
+line-count w r h = ap (λ (q : Line). q .count) (line-of w r h)
+
+pub line-held : (w : Words) (r : ℕ) → r < 16 → getD (linesOf (linesRead w)) r [] ≡ lineOf (lineAt w r)
+line-held w r h = List·getD-map lineOf (linesRead w) r noLine ∙ ap lineOf (line-of w r h)
 
 module _ (w : Words) (at : ℕ) where
   pub held-size : w at ≤ 32 → length (lineOf (lineRead w at)) ≡ w at

@@ -5,3 +5,4 @@ pub mod Boards
 pub mod Inverse
 pub mod Back
 pub mod Lent
+pub mod Written

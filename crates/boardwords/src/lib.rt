@@ -12,6 +12,7 @@ pub use reading::read_job;
 pub use reading::read_jobs;
 pub use reading::read_use;
 use words::u32_at;
+pub use writing::clear;
 pub use writing::put_job;
 pub use writing::put_use;
 pub use writing::write_board;

@@ -1,4 +1,4 @@
-// A board and its parts written as their words, by the definition in specs/Codec.
+// A board and its parts written as their words, by the definition in specs/Codec; and words cleared.
 use crate::Board;
 use lines::Jobs;
 use lines::Line;
@@ -8,6 +8,7 @@ ghost use mathlib.Core.Path.{_≡_};
 ghost use mathlib.Core.List.{[], _∷_};
 ghost use Prim.Native.Nat.{ℕ, _+_, _≤_, _<_};
 ghost use lib.ListN.{length, getD};
+ghost use Rattle.lists.specs.Loops.{rewritten};
 ghost use Rattle.lines.specs.Held.{noLine};
 ghost use Rattle.boardwords.specs.Codec.{counted, markOf, jobWords, jobsWords, useWords, usesWords, lineWords, linesWords, cellsWords, wordsOf, Arrays, put};
 
@@ -127,4 +128,14 @@ pub fn write_board(b: Board, w: &mut [u32])
     put_jobs(w, jobs);
     put_lines(w, lines);
     put_cells(w, gaps);
+}
+
+// 0 in the words from `from` on and before `to`.
+pub fn clear(w: &mut [u32], from: usize, to: usize)
+    requires { ⌜ (from ≤ to) × (to ≤ length (now w)) ⌝ }
+    ensures { λ _. ⌜ now (w .exit) ≡ rewritten (λ k. 0) (now (w .entry)) from to ⌝ }
+{
+    for k in from..to {
+        w[k] = 0;
+    }
 }

@@ -1,9 +1,9 @@
 -- Laws of drafts.
---   prefixed as p       what placing comes to, with the rules `as` before those it makes
+--   prefixed before p   what placing comes to, with these rules before those it makes
 --   from-start          placing that starts with rules makes the same rules behind them
 --   drafted-full        14
 --   start-room          the rules (b) and (c) leave room for the others
---   drafted-stop, drafted-made   past 14: what placing came to decides
+--   drafted-stop, drafted-made   past 14: what placing came to decides;  stops-as: a refusal says no more than its cause
 use Prim.Native.Nat.{ℕ, suc, _+_, _≤_}
 use mathlib.Core.Path.{_≡_, refl, sym, _∙_, ap, subst}
 use mathlib.Core.Bool.{Bool, true, false, cond}
@@ -16,10 +16,9 @@ use Rattle.rulings.specs.declared.Cause.{Cause}
 use Rattle.rulings.specs.declared.Ruling.{Ruling}
 use Rattle.rulings.specs.declared.Ruling.the-variants.{Accepted, Refused}
 use Rattle.plain.specs.Plain.{State, Offer, Placed, Draft, liveCount, notBefore, durations, inserted, ruleBefore, ruleAfter, usedFrom, placed, batchDistance, batchRules, full, pointsOf, jobFrom, joining, drafted}
-use Rattle.lines.specs.Held.{linesFrom, rulesOf, rulesFrom, answered}
+use Rattle.lines.specs.Held.{rulesOf, rulesFrom, answered}
 use Rattle.lines.specs.Asked.{Room}
 use Rattle.plain.specs.declared.Use.{Use}
-use Rattle.lines.specs.declared.Line.{Line}
 use Rattle.plain.specs.declared.Put.{Put}
 use Rattle.plain.specs.declared.Step.{Step}
 use Rattle.plain.specs.declared.Rule.{Rule}
@@ -138,20 +137,18 @@ module _
 
   -- the parts of the answer are those of the plain machine
   pub drafted-made :
-      (lines : List Line) (R : Rules) → ruling ≡ Accepted → lines ≡ linesFrom ls
-      → R ≡ rulesFrom (rulesOf made ++ batchRules (batchDistance s) (o .batch) (x + n) (s .jobs))
-      → DraftedAs (record { ruling = Accepted; rules = R }) lines (drafted s o)
+      (R : Rules) → ruling ≡ Accepted → R ≡ rulesFrom (rulesOf made ++ batchRules (batchDistance s) (o .batch) (x + n) (s .jobs))
+      → DraftedAs (record { ruling = Accepted; rules = R }) (drafted s o)
   unfolding DraftedAs
-  drafted-made lines R accepted tidy eR =
-      subst (DraftedAs (record { ruling = Accepted; rules = R }) lines) (sym (drafted-go accepted)) (
+  drafted-made R accepted eR =
+      subst (DraftedAs (record { ruling = Accepted; rules = R })) (sym (drafted-go accepted)) (
         refl,
-        tidy,
         eR
             ∙ ap (λ (i : ℕ). rulesFrom (rulesOf made ++ batchRules 0 (o .batch) (i + n) (s .jobs))) first
             ∙ ap (λ (i : ℕ). rulesFrom (rulesOf made ++ batchRules 0 (o .batch) (liveCount s + i) (s .jobs))) size,
       )
 
 -- a refusal says no more than its cause
-pub stops-as : (r : Drafted) (lines : List Line) (d : Draft) (c : Cause) → r .ruling ≡ Refused c → d ≡ Draft.stop c → DraftedAs r lines d
+pub stops-as : (r : Drafted) (d : Draft) (c : Cause) → r .ruling ≡ Refused c → d ≡ Draft.stop c → DraftedAs r d
 unfolding DraftedAs
-stops-as r lines d c is e = subst (DraftedAs r lines) (sym e) is
+stops-as r d c is e = subst (DraftedAs r) (sym e) is

@@ -5,7 +5,7 @@
 -- the uses behind it stand three words further up.
 use Prim.Native.Nat.{ℕ, zero, suc, _+_, _-_, _*_, _≤_, _<_}
 use mathlib.Core.Path.{_≡_, refl, sym, _∙_, ap}
-use mathlib.Core.List.{List, [], _∷_}
+use mathlib.Core.List.{List}
 use lib.ListN.{length, getD, set, length-set, List·getD-eq-default}
 use lib.Seq.{ext-getD, getD-set-same, getD-set-other}
 use native.Mathlib.Decide.{decLt}
@@ -22,9 +22,11 @@ use Rattle.lines.proofs.LineLaws.{length-inserted}
 use Rattle.boardwords.specs.Words.{wordIn, useAt, usesRead, lineRead}
 use Rattle.boardwords.specs.Codec.{useWords, put}
 use Rattle.lists.proofs.Build.{build-length, build-at}
-use Rattle.boardwords.proofs.Put.{put-length}
+use Rattle.boardwords.proofs.Put.{put-length, put-below, put-from}
+use Rattle.boardwords.proofs.Written.{put-at}
 use Rattle.drafts.specs.Beside.{Tidy, Beside}
 use Rattle.boardwords.proofs.Back.{same-use}
+use Rattle.drafts.proofs.Inserted.{inserted-below, inserted-here, inserted-behind}
 
 pub store-down :
     (f : ℕ → ℕ) (l m : List ℕ) (p q r v : ℕ) → m ≡ rewritten f l r q → r ≡ p + 1 → p < q → q ≤ length l → v ≡ f p
@@ -43,69 +45,6 @@ store-down f l m p q r v is next lt fits e =
     inside : (k : ℕ) → p ≤ k → k < q → k < length l → Dec (p < k) → getD (set m p v) k 0 ≡ f k
     inside k lo hi h (yes gt) = getD-set-other m p k v 0 (λ c. omega arith) ∙ rw is (rewritten-in f l r q k (omega arith) hi h)
     inside k lo hi h (no le) = here k (omega arith)
-
--- ---- a list with one more
-
-module _ (u : Use) where
-  inserted-below : (l : List Use) (p k : ℕ) → k < p → p ≤ length l → getD (inserted p u l) k noUse ≡ getD l k noUse
-  unfolding inserted
-  inserted-below l zero k h hl = absurd (omega arith)
-  inserted-below [] (suc p) k h hl = absurd (omega arith)
-  inserted-below (b ∷ l) (suc p) zero h hl = refl
-  inserted-below (b ∷ l) (suc p) (suc k) h hl = inserted-below l p k (omega arith) (omega arith)
-
-  inserted-here : (l : List Use) (p : ℕ) → p ≤ length l → getD (inserted p u l) p noUse ≡ u
-  unfolding inserted
-  inserted-here l zero hl = refl
-  inserted-here [] (suc p) hl = absurd (omega arith)
-  inserted-here (b ∷ l) (suc p) hl = inserted-here l p (omega arith)
-
-  inserted-behind : (l : List Use) (p k : ℕ) → p ≤ k → p ≤ length l → getD (inserted p u l) (suc k) noUse ≡ getD l k noUse
-  unfolding inserted
-  inserted-behind l zero k h hl = refl
-  inserted-behind [] (suc p) k h hl = absurd (omega arith)
-  inserted-behind (b ∷ l) (suc p) zero h hl = absurd (omega arith)
-  inserted-behind (b ∷ l) (suc p) (suc k) h hl = inserted-behind l p k (omega arith) (omega arith)
-
--- ---- three words written over a list
-
-module _ (w : List ℕ) (at : ℕ) (u : Use) where
-  put-below : (k : ℕ) → k < at → getD (put w at (useWords u)) k 0 ≡ getD w k 0
-  unfolding put
-  put-below k h =
-      getD-set-other (set (set w at (u .point)) (suc at) (u .offset)) (suc (suc at)) k (u .length) 0 (λ c. omega arith)
-      ∙ getD-set-other (set w at (u .point)) (suc at) k (u .offset) 0 (λ c. omega arith)
-      ∙ getD-set-other w at k (u .point) 0 (λ c. omega arith)
-
-  put-above : (k : ℕ) → at + 3 ≤ k → getD (put w at (useWords u)) k 0 ≡ getD w k 0
-  unfolding put
-  put-above k h =
-      getD-set-other (set (set w at (u .point)) (suc at) (u .offset)) (suc (suc at)) k (u .length) 0 (λ c. omega arith)
-      ∙ getD-set-other (set w at (u .point)) (suc at) k (u .offset) 0 (λ c. omega arith)
-      ∙ getD-set-other w at k (u .point) 0 (λ c. omega arith)
-
-  module _ (fits : at + 3 ≤ length w) where
-    put-point : (k : ℕ) → k ≡ at → getD (put w at (useWords u)) k 0 ≡ u .point
-    unfolding put
-    put-point k e =
-        rw e
-        (getD-set-other (set (set w at (u .point)) (suc at) (u .offset)) (suc (suc at)) at (u .length) 0 (λ c. omega arith)
-        ∙ getD-set-other (set w at (u .point)) (suc at) at (u .offset) 0 (λ c. omega arith)
-        ∙ getD-set-same w at (u .point) 0 (omega arith))
-
-    put-offset : (k : ℕ) → k ≡ suc at → getD (put w at (useWords u)) k 0 ≡ u .offset
-    unfolding put
-    put-offset k e =
-        rw e
-        (getD-set-other (set (set w at (u .point)) (suc at) (u .offset)) (suc (suc at)) (suc at) (u .length) 0 (λ c. omega arith)
-        ∙ getD-set-same (set w at (u .point)) (suc at) (u .offset) 0 (omega (arith, length-set w at (u .point))))
-
-    put-long : (k : ℕ) → k ≡ suc (suc at) → getD (put w at (useWords u)) k 0 ≡ u .length
-    unfolding put
-    put-long k e =
-        rw e
-        (getD-set-same (set (set w at (u .point)) (suc at) (u .offset)) (suc (suc at)) (u .length) 0
-        (omega (arith, length-set (set w at (u .point)) (suc at) (u .offset), length-set w at (u .point))))
 
 -- ---- the words afterwards
 
@@ -131,21 +70,21 @@ module _
   word-before : (k : ℕ) → (k ≡ at → ⊥) → k < at + 1 + 3 * place → getD (set P at (n + 1)) k 0 ≡ getD W k 0
   word-before k h l =
       other k h
-      ∙ put-below M (at + 1 + 3 * place) u k l
+      ∙ put-below M (at + 1 + 3 * place) (useWords u) k l
       ∙ rw moved (rewritten-below shift W (at + 1 + 3 * place + 3) (at + 1 + 3 * n + 3) k (omega arith))
 
   word-moved :
       (k j : ℕ) → at + 1 + 3 * place + 3 ≤ k → k < at + 1 + 3 * n + 3 → k - 3 ≡ j → getD (set P at (n + 1)) k 0 ≡ getD W j 0
   word-moved k j lo hi e =
       other k (λ c. omega arith)
-      ∙ put-above M (at + 1 + 3 * place) u k lo
+      ∙ put-from M (at + 1 + 3 * place) (useWords u) k lo
       ∙ rw moved (rewritten-in shift W (at + 1 + 3 * place + 3) (at + 1 + 3 * n + 3) k lo hi (omega arith))
       ∙ ap (λ (i : ℕ). getD W i 0) e
 
   word-behind : (k : ℕ) → at + 1 + 3 * n + 3 ≤ k → getD (set P at (n + 1)) k 0 ≡ getD W k 0
   word-behind k h =
       other k (λ c. omega arith)
-      ∙ put-above M (at + 1 + 3 * place) u k (omega arith)
+      ∙ put-from M (at + 1 + 3 * place) (useWords u) k (omega arith)
       ∙ rw moved (rewritten-from shift W (at + 1 + 3 * place + 3) (at + 1 + 3 * n + 3) k h)
 
   pub beside-line : Beside at (wordIn W) (wordIn (set P at (n + 1)))
@@ -165,9 +104,9 @@ module _
   use-here : (i : ℕ) → i ≡ place → now-use i ≡ u
   use-here i e =
       let room : at + 1 + 3 * place + 3 ≤ length M = omega (arith, length-moved) in
-      same-use u (other (at + 1 + 3 * i) (λ c. omega arith) ∙ put-point M (at + 1 + 3 * place) u room (at + 1 + 3 * i) (omega arith))
-      (other (at + 1 + 3 * i + 1) (λ c. omega arith) ∙ put-offset M (at + 1 + 3 * place) u room (at + 1 + 3 * i + 1) (omega arith))
-      (other (at + 1 + 3 * i + 2) (λ c. omega arith) ∙ put-long M (at + 1 + 3 * place) u room (at + 1 + 3 * i + 2) (omega arith))
+      same-use u (other (at + 1 + 3 * i) (λ c. omega arith) ∙ put-at M (at + 1 + 3 * place) (useWords u) (at + 1 + 3 * i) 0 (omega arith) (omega arith) room)
+      (other (at + 1 + 3 * i + 1) (λ c. omega arith) ∙ put-at M (at + 1 + 3 * place) (useWords u) (at + 1 + 3 * i + 1) 1 (omega arith) (omega arith) room)
+      (other (at + 1 + 3 * i + 2) (λ c. omega arith) ∙ put-at M (at + 1 + 3 * place) (useWords u) (at + 1 + 3 * i + 2) 2 (omega arith) (omega arith) room)
 
   use-moved : (i : ℕ) → place ≤ i → i < n → now-use (suc i) ≡ old-use i
   use-moved i lo hi =

@@ -1,4 +1,8 @@
-pub mod WordLaws
+pub mod Inserted
 pub mod InsertLaws
+pub mod WordLaws
+pub mod Moments
+pub mod ReadyLaws
+pub mod PutIn
 pub mod PlaceLaws
 pub mod DraftLaws

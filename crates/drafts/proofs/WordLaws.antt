@@ -6,10 +6,9 @@ use lib.ListN.{length, getD, set, length-set}
 use lib.Seq.{ext-getD, getD-set-same, getD-set-other}
 use native.Mathlib.Decide.{decLt}
 use native.Mathlib.Omega.{arith}
-use Rattle.lines.specs.declared.Line.{Line}
+use Rattle.lists.proofs.Build.{build-length}
 use Rattle.lines.specs.Held.{noLine}
 use Rattle.boardwords.specs.Words.{Words, lineAt, linesRead}
-use Rattle.lists.proofs.Build.{build-length}
 use Rattle.boardwords.proofs.Boards.{line-of, same-line}
 use Rattle.drafts.specs.Beside.{Beside}
 
@@ -19,28 +18,22 @@ module _ (v w : Words) (r : ℕ) (h : r < 16) (beside : Beside (52 + 97 * r) v w
     where
       go : (n : ℕ) → 52 + 97 * k ≤ n → n < 52 + 97 * k + 97 → Dec (k < r) → w n ≡ v n
       go n a b (yes lt) = beside .0 n (omega arith)
-      go n a b (no ge) =
-          let past : r < k = above k other ge in
-          beside .1 n (omega arith)
-        where
-          above : (k : ℕ) → (k ≡ r → ⊥) → (k < r → ⊥) → r < k
-          above k other ge = omega arith
+      go n a b (no ge) = let past : r < k = omega arith in beside .1 n (omega arith)
 
-  pub lines-set : (new : Line) → lineAt w r ≡ new → linesRead w ≡ set (linesRead v) r new
-  lines-set new e =
+  pub lines-set : linesRead w ≡ set (linesRead v) r (lineAt w r)
+  lines-set =
       let n : length (linesRead w) ≡ 16 = build-length (lineAt w) 16 in
       let m : length (linesRead v) ≡ 16 = build-length (lineAt v) 16 in
-      ext-getD noLine (linesRead w) (set (linesRead v) r new) (n ∙ sym (length-set (linesRead v) r new ∙ m))
+      ext-getD noLine (linesRead w) (set (linesRead v) r (lineAt w r)) (n ∙ sym (length-set (linesRead v) r (lineAt w r) ∙ m))
       (λ k l. line-of w k (omega arith) ∙ at k (omega arith) (decLt k r) (decLt r k))
     where
-      same : (k : ℕ) → k < 16 → (k ≡ r → ⊥) → lineAt w k ≡ getD (set (linesRead v) r new) k noLine
-      same k l other = same-other k other ∙ sym (getD-set-other (linesRead v) r k new noLine other ∙ line-of v k l)
+      same : (k : ℕ) → k < 16 → (k ≡ r → ⊥) → lineAt w k ≡ getD (set (linesRead v) r (lineAt w r)) k noLine
+      same k l other = same-other k other ∙ sym (getD-set-other (linesRead v) r k (lineAt w r) noLine other ∙ line-of v k l)
 
-      here : (k : ℕ) → k ≡ r → lineAt w k ≡ getD (set (linesRead v) r new) k noLine
-      here k s =
-          rw s (e ∙ sym (getD-set-same (linesRead v) r new noLine (omega (arith, build-length (lineAt v) 16, h))))
+      here : (k : ℕ) → k ≡ r → lineAt w k ≡ getD (set (linesRead v) r (lineAt w r)) k noLine
+      here k s = rw s (sym (getD-set-same (linesRead v) r (lineAt w r) noLine (omega (arith, build-length (lineAt v) 16, h))))
 
-      at : (k : ℕ) → k < 16 → Dec (k < r) → Dec (r < k) → lineAt w k ≡ getD (set (linesRead v) r new) k noLine
+      at : (k : ℕ) → k < 16 → Dec (k < r) → Dec (r < k) → lineAt w k ≡ getD (set (linesRead v) r (lineAt w r)) k noLine
       at k l (yes lt) d = same k l (λ s. omega arith)
       at k l (no ge) (yes gt) = same k l (λ s. omega arith)
       at k l (no ge) (no le) = here k (omega arith)

@@ -1,3 +1,4 @@
 pub mod Beside
+pub mod Moment
 pub mod Turned
 pub mod DraftedAs

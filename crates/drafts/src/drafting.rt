@@ -1,17 +1,18 @@
-// What an offer comes to before timetables are looked at: a refusal, or the lines to be and the rules (b) to (e).
+// What an offer comes to before timetables are looked at: a refusal, or the rules (b) to (e).
 ghost use mathlib.Core.Path.{_≡_};
 ghost use mathlib.Core.List.{_∷_};
 ghost use Prim.Native.Nat.{ℕ, _≤_};
 ghost use lib.ListN.{length};
 ghost use Rattle.plain.specs.Plain.{total, notBefore, durations, drafted};
 ghost use Rattle.lines.specs.Held.{jobsOf, stepsOf, rulesFrom, stateOf, heldOffer};
-ghost use Rattle.lines.specs.Asked.{Sized, Ready, Read};
+ghost use Rattle.putwords.specs.Puts.{putsIn};
+ghost use Rattle.lines.specs.Asked.{Sized, Lined};
 ghost use Rattle.boardwords.specs.Words.{wordIn, heldJobs, linesRead};
 ghost use Rattle.drafts.specs.DraftedAs.{DraftedAs};
+ghost use Rattle.drafts.specs.Moment.{ReadPuts};
 use crate::placing::place_all;
 use jobwords::add_batch;
 use jobwords::is_full;
-use lines::Puts;
 use lines::Rules;
 use lines::Steps;
 use lines::add_durations;
@@ -46,14 +47,12 @@ fn refused(cause: Cause) -> Drafted
     }
 }
 
-// What an offer that was read comes to, on a board of n points beside the origin: 14, 15 or 16, or the lines to be, in `next`, and the rules (b)
-// to (e) in this order. The numbers and jobs of the board are read in its words w.
-pub fn draft(next: &mut [u32], w: &[u32], n: u32, batch: u32, steps: Steps, puts: Puts) -> Drafted
-    requires { ⌜ (1604 ≤ length (now next)) × (1604 ≤ length (now w)) ⌝ }
+// What an offer that was read comes to, on a board of n points beside the origin: 14, 15 or 16, or the rules (b) to (e) in this order.
+pub fn draft(w: &[u32], n: u32, batch: u32, steps: Steps, puts: &[u32], many: usize) -> Drafted
+    requires { ⌜ 1604 ≤ length (now w) ⌝ }
     requires { ⌜ Sized (heldJobs (wordIn (now w))) × (n ≡ total (jobsOf (heldJobs (wordIn (now w))))) × (wordIn (now w) 2 ≤ 100000000) × (wordIn (now w) 1 ≤ 1000000) ⌝ }
-    requires { ⌜ Ready (linesRead (wordIn (now next))) × (steps .count ≤ 8) × Read puts ⌝ }
-    ensures drafted { λ r. ⌜ ((H : ℕ) → DraftedAs r (linesRead (wordIn (now (next .exit)))) (drafted (stateOf (heldJobs (wordIn (now (w .entry)))) (linesRead (wordIn (now (next .entry)))) (wordIn (now (w .entry)) 2) H (wordIn (now (w .entry)) 1)) (heldOffer batch steps puts))) ⌝ }
-    ensures ready { λ _. ⌜ Ready (linesRead (wordIn (now (next .exit)))) ⌝ }
+    requires { ⌜ Lined (linesRead (wordIn (now w))) × (steps .count ≤ 8) × ReadPuts (now puts) many ⌝ }
+    ensures { λ r. ⌜ ((H : ℕ) → DraftedAs r (drafted (stateOf (heldJobs (wordIn (now (w .entry)))) (linesRead (wordIn (now (w .entry)))) (wordIn (now (w .entry)) 2) H (wordIn (now (w .entry)) 1)) (heldOffer batch steps (putsIn (now (puts .entry)) many)))) ⌝ }
 {
     let count = steps.count as u32;
     if is_full(w, n, count + 1) {
@@ -61,7 +60,7 @@ pub fn draft(next: &mut [u32], w: &[u32], n: u32, batch: u32, steps: Steps, puts
     }
     let first = n + 1;
     let begun = begin_rules(first, w[2] + w[1], steps);
-    let placing = place_all(next, first, puts, begun);
+    let placing = place_all(w, first, puts, many, begun);
     let ruling = placing.ruling;
     if let Ruling::Refused(cause) = ruling {
         return refused(cause);

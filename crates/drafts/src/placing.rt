@@ -1,23 +1,26 @@
-// The allocations of an offer put into the lines, one after the other, with the rules (d) that each makes.
+// The allocations of an offer placed, one after the other, with the rules (d) that each makes. No word is written.
 ghost use mathlib.Core.Path.{_≡_};
 ghost use mathlib.Core.List.{[]};
 ghost use Prim.Native.Nat.{_+_, _≤_};
 ghost use lib.ListN.{length};
 ghost use Rattle.plain.specs.Plain.{usedFrom, ruleBefore, ruleAfter, placed};
-ghost use Rattle.lines.specs.Held.{lineOf, linesOf, rulesOf, putsOf, maybeFrom, answered};
-ghost use Rattle.lines.specs.Asked.{Short, AllShort, Ready, Room, Readable, Read};
-ghost use Rattle.boardwords.specs.Words.{wordIn, lineRead, linesRead};
+ghost use Rattle.putwords.specs.Puts.{putAt, putsIn};
+ghost use Rattle.lines.specs.Held.{rulesOf, maybeFrom, answered};
+ghost use Rattle.lines.specs.Asked.{Lined, Room, Readable};
+ghost use Rattle.lines.specs.Placing.{allWith, AllFit};
+ghost use Rattle.boardwords.specs.Words.{wordIn, linesRead};
+ghost use Rattle.drafts.specs.Moment.{ReadPuts, linesIn, lineThen};
 ghost use Rattle.drafts.specs.Turned.{Turned};
-use crate::inserting::insert;
-use boardwords::read_use;
+use crate::moment::number_in;
+use crate::moment::use_in;
+use crate::moment::used_from;
 use lines::Maybe;
-use lines::Puts;
 use lines::Rules;
 use lines::in_order;
 use lines::no_rule;
 use lines::one_rule;
 use plain::Put;
-use plain::Use;
+use putwords::read_put;
 use rulings::Cause;
 use rulings::Ruling;
 
@@ -34,42 +37,32 @@ pub struct Turn {
     pub after: Maybe,
 }
 
-// The use of an allocation, where p0 of its job is the point `first`.
-fn used_from(first: u32, put: Put) -> Use
-    requires { ⌜ (first ≤ 64) × (put .step ≤ 8) ⌝ }
-    ensures { λ r. ⌜ r ≡ usedFrom first put ⌝ }
+// The rule with the use just before an allocation, if there is one, once the first k allocations are put in.
+fn rule_before(w: &[u32], first: u32, puts: &[u32], k: usize, put: Put) -> Maybe
+    requires { ⌜ (1604 ≤ length (now w)) × Lined (linesRead (wordIn (now w))) × ReadPuts (now puts) k × Readable put × (first ≤ 64) ⌝ }
+    requires { ⌜ AllFit first (linesIn (now w)) (putsIn (now puts) k) × (put .place ≤ length (lineThen first (now w) (now puts) k (put .resource))) ⌝ }
+    ensures { λ r. ⌜ r ≡ maybeFrom (ruleBefore (lineThen first (now (w .entry)) (now (puts .entry)) k (put .resource)) (put .place) (usedFrom first put)) ⌝ }
 {
-    Use {
-        point: first + put.step,
-        offset: put.offset,
-        length: put.length,
-    }
-}
-
-// The rule with the use just before the place, if there is one.
-fn rule_before(w: &[u32], at: usize, place: usize, u: Use) -> Maybe
-    requires { ⌜ (at + 97 ≤ length (now w)) × (place ≤ wordIn (now w) at) × (wordIn (now w) at ≤ 32) ⌝ }
-    requires { ⌜ AllShort (lineOf (lineRead (wordIn (now w)) at)) ⌝ }
-    ensures { λ r. ⌜ r ≡ maybeFrom (ruleBefore (lineOf (lineRead (wordIn (now (w .entry))) at)) place u) ⌝ }
-{
+    let place = put.place as usize;
     if place == 0 {
         return no_rule();
     }
-    let before = read_use(w, at + 1 + 3 * (place - 1));
-    one_rule(in_order(before, u))
+    let before = use_in(w, first, puts, k, put.resource, place - 1);
+    one_rule(in_order(before, used_from(first, put)))
 }
 
-// The rule with the use just after the place, if there is one.
-fn rule_after(w: &[u32], at: usize, place: usize, u: Use) -> Maybe
-    requires { ⌜ (at + 97 ≤ length (now w)) × (wordIn (now w) at ≤ 32) × Short u ⌝ }
-    ensures { λ r. ⌜ r ≡ maybeFrom (ruleAfter (lineOf (lineRead (wordIn (now (w .entry))) at)) place u) ⌝ }
+// The rule with the use just after it, if there is one; the line holds `number` uses.
+fn rule_after(w: &[u32], first: u32, puts: &[u32], k: usize, put: Put, number: usize) -> Maybe
+    requires { ⌜ (1604 ≤ length (now w)) × Lined (linesRead (wordIn (now w))) × ReadPuts (now puts) k × Readable put × (first ≤ 64) ⌝ }
+    requires { ⌜ AllFit first (linesIn (now w)) (putsIn (now puts) k) × (number ≡ length (lineThen first (now w) (now puts) k (put .resource))) ⌝ }
+    ensures { λ r. ⌜ r ≡ maybeFrom (ruleAfter (lineThen first (now (w .entry)) (now (puts .entry)) k (put .resource)) (put .place) (usedFrom first put)) ⌝ }
 {
-    let count = w[at] as usize;
-    if count <= place {
+    let place = put.place as usize;
+    if number <= place {
         return no_rule();
     }
-    let after = read_use(w, at + 1 + 3 * place);
-    one_rule(in_order(u, after))
+    let after = use_in(w, first, puts, k, put.resource, place);
+    one_rule(in_order(used_from(first, put), after))
 }
 
 // Stopped, with no rule.
@@ -83,25 +76,24 @@ fn stopped(cause: Cause) -> Turn
     }
 }
 
-// Allocation i put into its line. 15 "A place exceeds the number in its line at that moment", and then 16 "The line has 32 already".
-fn place_one(w: &mut [u32], first: u32, i: u32, put: Put) -> Turn
-    requires { ⌜ 1604 ≤ length (now w) ⌝ }
-    requires { ⌜ (first ≤ 64) × Readable put × Ready (linesRead (wordIn (now w))) ⌝ }
-    ensures { λ r. ⌜ Turned first i put (linesRead (wordIn (now (w .entry)))) (linesRead (wordIn (now (w .exit)))) r ⌝ }
+// Allocation k placed, once those before it are put in. 15 "A place exceeds the number in its line at that moment", and then 16 "The line has 32
+// already".
+fn place_one(w: &[u32], first: u32, puts: &[u32], k: usize) -> Turn
+    requires { ⌜ (1604 ≤ length (now w)) × Lined (linesRead (wordIn (now w))) × ReadPuts (now puts) (k + 1) × (first ≤ 64) ⌝ }
+    requires { ⌜ AllFit first (linesIn (now w)) (putsIn (now puts) k) ⌝ }
+    ensures { λ r. ⌜ Turned first k (putAt (now (puts .entry)) k) (allWith first (linesIn (now (w .entry))) (putsIn (now (puts .entry)) k)) r ⌝ }
 {
-    let at = 52 + 97 * (put.resource as usize);
+    let put = read_put(puts, k);
     let place = put.place as usize;
-    let count = w[at] as usize;
-    if count < place {
-        return stopped(Cause::Allocation(15, i));
+    let number = number_in(w, puts, k, put.resource);
+    if number < place {
+        return stopped(Cause::Allocation(15, k as u32));
     }
-    if 32 <= count {
-        return stopped(Cause::Allocation(16, i));
+    if 32 <= number {
+        return stopped(Cause::Allocation(16, k as u32));
     }
-    let u = used_from(first, put);
-    let before = rule_before(w, at, place, u);
-    let after = rule_after(w, at, place, u);
-    insert(w, at, place, u);
+    let before = rule_before(w, first, puts, k, put);
+    let after = rule_after(w, first, puts, k, put, number);
     Turn {
         ruling: Ruling::Accepted,
         before,
@@ -109,19 +101,16 @@ fn place_one(w: &mut [u32], first: u32, i: u32, put: Put) -> Turn
     }
 }
 
-// All allocations of an offer put into their lines, or the first that is stopped and the rules as they are then. A place counts what
-// stands in the line at that moment, the offer's earlier allocations with it.
-pub fn place_all(w: &mut [u32], first: u32, puts: Puts, rules: Rules) -> Placing
-    requires { ⌜ 1604 ≤ length (now w) ⌝ }
-    requires { ⌜ (first ≤ 64) × Read puts × Ready (linesRead (wordIn (now w))) × Room 65 rules ⌝ }
-    ensures answer { λ r. ⌜ answered (r .ruling) (linesOf (linesRead (wordIn (now (w .exit))))) (rulesOf (r .rules)) ≡ placed first 0 (putsOf puts) (linesOf (linesRead (wordIn (now (w .entry))))) (rulesOf rules) ⌝ }
-    ensures ready { λ r. ⌜ Ready (linesRead (wordIn (now (w .exit)))) ⌝ }
+// All allocations of an offer placed, or the first that is stopped and the rules as they are then. A place counts what stands in the line at
+// that moment, the offer's earlier allocations with it.
+pub fn place_all(w: &[u32], first: u32, puts: &[u32], many: usize, rules: Rules) -> Placing
+    requires { ⌜ (1604 ≤ length (now w)) × Lined (linesRead (wordIn (now w))) × ReadPuts (now puts) many × (first ≤ 64) × Room 65 rules ⌝ }
+    ensures answer { λ r. ⌜ answered (r .ruling) (allWith first (linesIn (now (w .entry))) (putsIn (now (puts .entry)) many)) (rulesOf (r .rules)) ≡ placed first 0 (putsIn (now (puts .entry)) many) (linesIn (now (w .entry))) (rulesOf rules) ⌝ }
     ensures room { λ r. ⌜ Room 1 (r .rules) ⌝ }
 {
     let mut made = rules;
-    for k in 0..puts.count {
-        let put = puts.puts[k];
-        let turn = place_one(w, first, k as u32, put);
+    for k in 0..many {
+        let turn = place_one(w, first, puts, k);
         let ruling = turn.ruling;
         if let Ruling::Refused(cause) = ruling {
             return Placing {

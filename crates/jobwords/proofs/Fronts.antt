@@ -34,7 +34,7 @@ use Rattle.boardwords.proofs.Put.{put-length, put-below, put-from, length-jobs}
 use Rattle.boardwords.proofs.Inverse.{counted-is, mark-small, mark-is as mark-read, jobs-read}
 use Rattle.boardwords.proofs.Back.{same-job as job-of}
 use Rattle.boardwords.proofs.Boards.{held-jobs, held-job, job-same}
-use Rattle.linewords.proofs.Places.{put-at, put-is}
+use Rattle.boardwords.proofs.Written.{put-at, put-is}
 use Rattle.jobwords.specs.Fronted.{fronted}
 use Rattle.jobwords.specs.Listed.{Listed}
 

@@ -1,7 +1,7 @@
 // The jobs with one more, with the first of them sent, or without the oldest; or the same jobs at another clock. A job that stays where it is
 // is not written again: its mark is 0 or 1, and so its words are those that writing it would give. Every place not in use gets 0.
+use boardwords::clear;
 use boardwords::put_job;
-use linewords::clear;
 use plain::Job;
 ghost use mathlib.Core.Bool.{true};
 ghost use mathlib.Core.Path.{_≡_};

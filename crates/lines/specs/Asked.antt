@@ -4,19 +4,18 @@
 --   Lined lines      no line holds more than 32, and each use is Short
 --   Ready lines      the same of lines that have 0 in every place not in use
 --   Room n rules     n more rules fit
---   Readable p       an allocation's numbers are in range;  Read puts: there are at most 32, each Readable
+--   Readable p       an allocation's numbers are in range
 use Prim.Native.Nat.{ℕ, _+_, _≤_, _<_}
 use mathlib.Core.Path.{_≡_}
 use mathlib.Core.List.{List, []}
 use lib.ListN.{length, getD}
 use Rattle.plain.specs.Plain.{noUse, total}
-use Rattle.lines.specs.Held.{jobsOf, linesOf, linesFrom, rulesOf, rulesFrom, noLine, noPut}
+use Rattle.lines.specs.Held.{jobsOf, linesOf, linesFrom, rulesOf, rulesFrom, noLine}
 use Rattle.lines.specs.declared.Jobs.{Jobs}
 use Rattle.plain.specs.declared.Use.{Use}
 use Rattle.lines.specs.declared.Line.{Line}
 use Rattle.lines.specs.declared.rulelist.Rules.{Rules}
 use Rattle.plain.specs.declared.Put.{Put}
-use Rattle.lines.specs.declared.Puts.{Puts}
 
 -- "At most 16 jobs and, beside the origin, 64 points are live."
 pub record Sized (jobs : Jobs) : Type 0 where
@@ -53,8 +52,3 @@ pub record Readable (p : Put) : Type 0 where
   pub step : p .step ≤ 8
   pub offset : p .offset ≤ 1000000
   pub length : p .length ≤ 1000000
-
--- 8 steps of at most 4 allocations
-pub record Read (puts : Puts) : Type 0 where
-  pub count : puts .count ≤ 32
-  pub each : (k : ℕ) → k < puts .count → Readable (getD (puts .puts) k noPut)

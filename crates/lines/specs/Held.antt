@@ -1,9 +1,9 @@
 -- Arrays as lists, and lists laid into arrays. The plain machine is over lists; the code holds each in an array with a count. Only these
 -- names stand between the two.
---   jobsOf, lineOf, linesOf, rulesOf, putsOf, stepsOf   the list that is held: the first `count` places
+--   jobsOf, lineOf, linesOf, rulesOf, stepsOf           the list that is held: the first `count` places
 --   jobsFrom, lineFrom, linesFrom, rulesFrom            the list laid into an array, 0 in every place not in use
 --   maybeFrom rs                                        a list of one rule or none
---   noJob, noRule, noPut, noStep, noLine                what a place not in use holds; `noUse` is the plain machine's
+--   noJob, noRule, noStep, noLine                       what a place not in use holds; `noUse` is the plain machine's
 -- Answers of the code as answers of the plain machine:
 --   endRule d last e   rule (e) with a job whose last point is e - 1; none where e is 0
 --   answered c ls rs   what placing came to, by its ruling: the lines and rules are left out where it is a refusal
@@ -23,7 +23,6 @@ use Rattle.lines.specs.declared.Line.{Line}
 use Rattle.plain.specs.declared.Rule.{Rule}
 use Rattle.lines.specs.declared.rulelist.Rules.{Rules}
 use Rattle.plain.specs.declared.Put.{Put}
-use Rattle.lines.specs.declared.Puts.{Puts}
 use Rattle.plain.specs.declared.Step.{Step}
 use Rattle.lines.specs.declared.Steps.{Steps}
 use Rattle.lines.specs.declared.rulelist.Maybe.{Maybe}
@@ -33,9 +32,6 @@ noJob = record { points = 0; batch = 0; sent = false }
 
 abbrev pub noRule : Rule
 noRule = record { early = 0; more = 0; late = 0; slack = 0 }
-
-abbrev pub noPut : Put
-noPut = record { resource = 0; place = 0; step = 0; offset = 0; length = 0 }
 
 abbrev pub noStep : Step
 noStep = record { shortest = 0; longest = 0 }
@@ -71,9 +67,6 @@ rulesFrom rs = record { count = length rs; rules = padded 82 noRule rs }
 abbrev pub maybeFrom : List Rule → Maybe
 maybeFrom rs = record { count = length rs; rule = getD rs 0 noRule }
 
-abbrev pub putsOf : Puts → List Put
-putsOf p = take (p .count) (p .puts)
-
 abbrev pub stepsOf : Steps → List Step
 stepsOf s = take (s .count) (s .steps)
 
@@ -89,5 +82,5 @@ abbrev pub stateOf : Jobs → List Line → ℕ → ℕ → ℕ → State
 stateOf jobs lines clock horizon lead =
     record { jobs = jobsOf jobs; lines = linesOf lines; clock = clock; horizon = horizon; lead = lead }
 
-abbrev pub heldOffer : ℕ → Steps → Puts → Offer
-heldOffer batch steps puts = record { batch = batch; steps = stepsOf steps; puts = putsOf puts }
+abbrev pub heldOffer : ℕ → Steps → List Put → Offer
+heldOffer batch steps puts = record { batch = batch; steps = stepsOf steps; puts = puts }

@@ -1,3 +1,4 @@
 pub mod Padded
 pub mod Held
 pub mod Asked
+pub mod Placing

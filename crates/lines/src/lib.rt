@@ -1,4 +1,4 @@
-// The structs of jobs, lines, allocations and rules; rules collected, and a use that stays or goes, by value: the plain machine's code but for jobs
+// The structs of jobs, lines, steps and rules; rules collected, and a use that stays or goes, by value: the plain machine's code but for jobs
 // and lines, which are changed in words (crates jobwords, linewords and drafts).
 // It may use plain and rulings; it knows neither bytes nor a table.
 mod joblist; // the list of jobs
@@ -12,7 +12,6 @@ pub use leaving::no_use;
 pub use leaving::stay_count;
 pub use leaving::stay_use;
 use plain::Job;
-use plain::Put;
 use plain::Step;
 use plain::Use;
 pub use rulelist::Maybe;
@@ -36,12 +35,6 @@ pub struct Jobs {
 pub struct Line {
     pub count: usize,
     pub uses: [Use; 32],
-}
-
-// The allocations of an offer, in its order.
-pub struct Puts {
-    pub count: usize,
-    pub puts: [Put; 32],
 }
 
 // The steps of an offer.

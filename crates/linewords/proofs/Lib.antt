@@ -1,4 +1,3 @@
 pub mod Places
 pub mod Lines
 pub mod Thin
-pub mod Copied

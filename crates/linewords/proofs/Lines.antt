@@ -1,16 +1,10 @@
 -- Laws of lines where they lie.
---   same-use, no-words   a use is its three words
 --   cleared-put          a line whose count and first uses are written, and whose other places were cleared
 --   tidy-put             a line as it came, whose places not in use were cleared
---   laid-put             a line laid into words that held 0
---   line-count           a line has at most 32 uses
--- A loop that writes each of the lines of v, changed by h, over those of w₀:
+-- A loop that changes each of the lines by h:
 --   changed, turned      the lines as they will be, and the words after k turns
---   words-ahead          the words from line k on are still as they came
 --   lines-turn, lines-done   a turn, and the end
--- The same over the lines' own words:
---   lines-ahead          line k is still as it came;  lines-few: and has at most 32 uses
---   own-turn             a turn
+--   lines-few            a line that is not reached yet has at most 32 uses
 use Prim.Native.Nat.{ℕ, _+_, _*_, _<_, _≤_}
 use mathlib.Core.Path.{_≡_, refl, sym, _∙_, ap}
 use mathlib.Core.List.{List, map}
@@ -24,21 +18,14 @@ use Rattle.lines.specs.Held.{lineOf, noLine, lineFrom}
 use Rattle.lines.proofs.Lists.{map-at}
 use Rattle.lists.specs.Loops.{rewritten}
 use Rattle.lists.proofs.Rewritten.{rewritten-length, rewritten-in, rewritten-below, rewritten-from}
-use Rattle.boardwords.specs.Words.{Words, wordIn, useRead, useAt, lineRead, lineAt, linesRead}
+use Rattle.boardwords.specs.Words.{Words, wordIn, useAt, lineRead, lineAt, linesRead}
 use Rattle.boardwords.specs.Codec.{joined, lineWords, put}
 use Rattle.lists.proofs.Build.{build-length, build-at}
-use Rattle.boardwords.proofs.Boards.{held-size, held-use, same-line}
+use Rattle.boardwords.proofs.Back.{same-use}
+use Rattle.boardwords.proofs.Boards.{line-count, held-size, held-use, same-line}
 use Rattle.boardwords.proofs.Blocks.{length-joined}
 use Rattle.boardwords.proofs.Put.{put-line-turn, length-line, put-from}
 use Rattle.linewords.proofs.Places.{line-put}
-
--- a use is its three words
-pub same-use :
-    (v w : Words) (a b : ℕ) → v a ≡ w b → v (a + 1) ≡ w (b + 1) → v (a + 2) ≡ w (b + 2) → useRead v a ≡ useRead w b
-same-use v w a b p q r = rw (p, q, r)
-
-pub no-words : (v : Words) (a : ℕ) → v a ≡ 0 → v (a + 1) ≡ 0 → v (a + 2) ≡ 0 → useRead v a ≡ noUse
-no-words v a p q r = rw (p, q, r)
 
 -- ---- a line
 
@@ -55,14 +42,14 @@ line-held w x at n us size few room len count uses clear below from =
     go : (m : ℕ) → m < 32 → Dec (m < n) → useAt (wordIn x) (at + 1) m ≡ getD us m noUse
     go m h (yes lt) = uses m lt
     go m h (no ge) =
-        no-words (wordIn x) (at + 1 + 3 * m) (clear (at + 1 + 3 * m) (omega arith) (omega arith))
+        same-use noUse (clear (at + 1 + 3 * m) (omega arith) (omega arith))
         (clear (at + 1 + 3 * m + 1) (omega arith) (omega arith)) (clear (at + 1 + 3 * m + 2) (omega arith) (omega arith))
         ∙ sym (List·getD-eq-default us noUse {n = m} (omega arith))
 
 -- a use whose words are the same
 same-words : (v w : Words) (a m n : ℕ) → m < n → ((k : ℕ) → a + 1 ≤ k → k < a + 1 + 3 * n → v k ≡ w k) → useAt v (a + 1) m ≡ useAt w (a + 1) m
 same-words v w a m n lt same =
-    same-use v w (a + 1 + 3 * m) (a + 1 + 3 * m) (same (a + 1 + 3 * m) (omega arith) (omega arith))
+    same-use (useAt w (a + 1) m) (same (a + 1 + 3 * m) (omega arith) (omega arith))
     (same (a + 1 + 3 * m + 1) (omega arith) (omega arith)) (same (a + 1 + 3 * m + 2) (omega arith) (omega arith))
 
 -- the count and the uses us are there, and the other words were cleared
@@ -92,76 +79,42 @@ tidy-put w x at room few is =
     cleared-put w w x at (wordIn w at) (lineOf (lineRead (wordIn w) at)) (sym (held-size (wordIn w) at few)) few room refl refl
     (λ m h. sym (held-use (wordIn w) at m h (omega arith))) (λ k h. refl) (λ k h. refl) is
 
--- a line laid into words that hold 0: its count and the uses in use were copied
-pub laid-put :
-    (w v x : List ℕ) (at : ℕ) → at + 97 ≤ length w → wordIn v at ≤ 32 → ((k : ℕ) → at ≤ k → k < at + 97 → wordIn w k ≡ 0)
-    → x ≡ rewritten (wordIn v) w at (at + 1 + 3 * wordIn v at) → x ≡ put w at (lineWords (lineFrom (lineOf (lineRead (wordIn v) at))))
-laid-put w v x at room few zero is =
-    line-held w x at (wordIn v at) (lineOf (lineRead (wordIn v) at)) (sym (held-size (wordIn v) at few)) few room
-    (ap length is ∙ rewritten-length (wordIn v) w at end) (early at (omega arith) (omega arith))
-    (λ m lt. same-words (wordIn x) (wordIn v) at m (wordIn v at) lt (λ k lo hi. early k (omega arith) hi) ∙ sym (held-use (wordIn v) at m lt (omega arith)))
-    (λ k lo hi. late k lo ∙ zero k (omega arith) hi)
-    (λ k h. ap (λ (l : List ℕ). getD l k 0) is ∙ rewritten-below (wordIn v) w at end k h) (λ k h. late k (omega arith))
-  where
-    end : ℕ
-    end = at + 1 + 3 * wordIn v at
-
-    early : (k : ℕ) → at ≤ k → k < end → wordIn x k ≡ wordIn v k
-    early k lo hi = ap (λ (l : List ℕ). getD l k 0) is ∙ rewritten-in (wordIn v) w at end k lo hi (omega arith)
-
-    late : (k : ℕ) → end ≤ k → wordIn x k ≡ wordIn w k
-    late k h = ap (λ (l : List ℕ). getD l k 0) is ∙ rewritten-from (wordIn v) w at end k h
-
 -- ---- all lines
 
--- a line has at most 32 uses
-pub line-count : (v : List ℕ) (k : ℕ) → k < 16 → ((i : ℕ) → getD (linesRead (wordIn v)) i noLine .count ≤ 32) → wordIn v (52 + 97 * k) ≤ 32
-line-count v k l few =
-    let first : getD (linesRead (wordIn v)) k noLine .count ≡ wordIn v (52 + 97 * k) = ap (λ (q : Line). q .count) (build-at (lineAt (wordIn v)) 16 k noLine l) in
-    omega (arith, first, few k)
-
-module _ (h : Line → Line) (v w₀ : List ℕ) where
+module _ (h : Line → Line) (w₀ : List ℕ) where
   -- the lines as they will be
-  abbrev pub changed : List Line
-  changed = map h (linesRead (wordIn v))
+  abbrev changed : List Line
+  changed = map h (linesRead (wordIn w₀))
 
   abbrev pub turned : ℕ → List ℕ
   turned k = put w₀ 52 (joined (λ i. lineWords (getD changed i noLine)) k)
 
-  changed-at : (k : ℕ) → k < 16 → getD changed k noLine ≡ h (lineAt (wordIn v) k)
+  changed-at : (k : ℕ) → k < 16 → getD changed k noLine ≡ h (lineAt (wordIn w₀) k)
   changed-at k l =
-      map-at h (linesRead (wordIn v)) k noLine noLine (omega (arith, build-length (lineAt (wordIn v)) 16))
-      ∙ ap h (build-at (lineAt (wordIn v)) 16 k noLine l)
+      map-at h (linesRead (wordIn w₀)) k noLine noLine (omega (arith, build-length (lineAt (wordIn w₀)) 16))
+      ∙ ap h (build-at (lineAt (wordIn w₀)) 16 k noLine l)
 
   -- the words from line k on are still what they were
-  pub words-ahead : (w : List ℕ) (k : ℕ) → w ≡ turned k → (i : ℕ) → 52 + 97 * k ≤ i → wordIn w i ≡ wordIn w₀ i
+  words-ahead : (w : List ℕ) (k : ℕ) → w ≡ turned k → (i : ℕ) → 52 + 97 * k ≤ i → wordIn w i ≡ wordIn w₀ i
   words-ahead w k is i l =
       let f : ℕ → List ℕ = λ i. lineWords (getD changed i noLine) in
       let size : length (joined f k) ≡ 97 * k = length-joined f 97 k (λ i. length-line (getD changed i noLine)) in
       ap (λ (q : List ℕ). getD q i 0) is ∙ put-from w₀ 52 (joined f k) i (omega (arith, size))
 
+  -- line k is still what it was
+  lines-ahead : (w : List ℕ) (k : ℕ) → w ≡ turned k → lineAt (wordIn w) k ≡ lineAt (wordIn w₀) k
+  lines-ahead w k is = same-line (wordIn w) (wordIn w₀) (52 + 97 * k) (λ i l m. words-ahead w k is i l)
+
   pub lines-turn :
-      (w x : List ℕ) (k : ℕ) → w ≡ turned k → k < 16 → x ≡ put w (52 + 97 * k) (lineWords (h (lineAt (wordIn v) k))) → x ≡ turned (k + 1)
+      (w x : List ℕ) (k : ℕ) → w ≡ turned k → k < 16 → x ≡ put w (52 + 97 * k) (lineWords (h (lineAt (wordIn w) k))) → x ≡ turned (k + 1)
   lines-turn w x k is l new =
-      put-line-turn changed w₀ 52 k w x is (new ∙ ap (λ (q : Line). put w (52 + 97 * k) (lineWords q)) (sym (changed-at k l)))
+      let one : h (lineAt (wordIn w) k) ≡ getD changed k noLine = ap h (lines-ahead w k is) ∙ sym (changed-at k l) in
+      put-line-turn changed w₀ 52 k w x is (new ∙ ap (λ (q : Line). put w (52 + 97 * k) (lineWords q)) one)
 
   pub lines-done : (w : List ℕ) (k : ℕ) (ls : List Line) → w ≡ turned k → k ≡ 16 → changed ≡ ls → w ≡ put w₀ 52 (joined (λ i. lineWords (getD ls i noLine)) 16)
   lines-done w k ls is e same = is ∙ ap turned e ∙ ap (λ (q : List Line). put w₀ 52 (joined (λ i. lineWords (getD q i noLine)) 16)) same
 
--- ---- all lines, where they lie
-
-module _ (h : Line → Line) (w₀ : List ℕ) where
-  -- line k is still what it was
-  pub lines-ahead : (w : List ℕ) (k : ℕ) → w ≡ turned h w₀ w₀ k → lineAt (wordIn w) k ≡ lineAt (wordIn w₀) k
-  lines-ahead w k is = same-line (wordIn w) (wordIn w₀) (52 + 97 * k) (λ i l m. words-ahead h w₀ w₀ w k is i l)
-
-  pub own-turn :
-      (w x : List ℕ) (k : ℕ) → w ≡ turned h w₀ w₀ k → k < 16 → x ≡ put w (52 + 97 * k) (lineWords (h (lineAt (wordIn w) k)))
-      → x ≡ turned h w₀ w₀ (k + 1)
-  own-turn w x k is l new = lines-turn h w₀ w₀ w x k is l (new ∙ ap (λ (q : Line). put w (52 + 97 * k) (lineWords (h q))) (lines-ahead w k is))
-
   -- a line that is not reached yet has at most 32 uses
   pub lines-few :
-      (w : List ℕ) (k : ℕ) → w ≡ turned h w₀ w₀ k → k < 16 → ((i : ℕ) → getD (linesRead (wordIn w₀)) i noLine .count ≤ 32)
-      → wordIn w (52 + 97 * k) ≤ 32
-  lines-few w k is l few = omega (arith, words-ahead h w₀ w₀ w k is (52 + 97 * k) (omega arith), line-count w₀ k l few)
+      (w : List ℕ) (k : ℕ) → w ≡ turned k → k < 16 → ((i : ℕ) → getD (linesRead (wordIn w₀)) i noLine .count ≤ 32) → wordIn w (52 + 97 * k) ≤ 32
+  lines-few w k is l few = omega (arith, words-ahead w k is (52 + 97 * k) (omega arith), line-count (wordIn w₀) k l, few k)

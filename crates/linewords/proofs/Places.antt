@@ -1,13 +1,9 @@
--- Words at the place that a list was written to (boardwords has those outside of it).
---   put-at                the words at it
---   put-is                words that are so are those that were written
---   line-put              words that hold a line at `at`, and are as they were elsewhere
-use Prim.Native.Nat.{ℕ, zero, suc, _+_, _-_, _<_, _≤_}
+-- A line in its place among words.
+--   line-put   words that hold a line at `at`, and are as they were elsewhere
+use Prim.Native.Nat.{ℕ, zero, suc, _+_, _<_, _≤_}
 use mathlib.Core.Path.{_≡_, sym, _∙_, ap, ap₂}
-use mathlib.Core.List.{List, [], _∷_}
-use lib.ListN.{length, getD, set, length-set}
-use lib.Seq.{ext-getD, getD-set-same}
-use native.Mathlib.Decide.{decLt}
+use mathlib.Core.List.{List, _∷_}
+use lib.ListN.{length, getD}
 use native.Mathlib.Omega.{arith}
 use Rattle.plain.specs.declared.Use.{Use}
 use Rattle.plain.specs.Plain.{noUse}
@@ -18,34 +14,8 @@ use Rattle.lists.specs.Loops.{build}
 use Rattle.boardwords.specs.Words.{wordIn, useAt, usesRead}
 use Rattle.boardwords.specs.Codec.{usesWords, lineWords, put}
 use Rattle.lists.proofs.Build.{build-length, build-same, build-at, build-back}
-use Rattle.boardwords.proofs.Put.{put-length, put-below, put-from}
 use Rattle.boardwords.proofs.Inverse.{counted-is, uses-read}
-
-pub put-at :
-    (w : List ℕ) (at : ℕ) (l : List ℕ) (k i : ℕ) → k ≡ at + i → i < length l → at + length l ≤ length w → getD (put w at l) k 0 ≡ getD l i 0
-unfolding put
-put-at w at [] k i e h room = absurd (omega arith)
-put-at w at (x ∷ l) k zero e h room =
-    let is : k ≡ at = omega arith in
-    rw is (put-below (set w at x) (suc at) l at (omega arith) ∙ getD-set-same w at x 0 (omega arith))
-put-at w at (x ∷ l) k (suc i) e h room =
-    put-at (set w at x) (suc at) l k i (omega arith) (omega arith) (omega (arith, length-set w at x))
-
-pub put-is :
-    (w x : List ℕ) (at : ℕ) (l : List ℕ) → length x ≡ length w → at + length l ≤ length w
-    → ((i : ℕ) → i < length l → getD x (at + i) 0 ≡ getD l i 0) → ((k : ℕ) → k < at → getD x k 0 ≡ getD w k 0)
-    → ((k : ℕ) → at + length l ≤ k → getD x k 0 ≡ getD w k 0) → x ≡ put w at l
-put-is w x at l e room inside below from =
-    ext-getD 0 x (put w at l) (e ∙ sym (put-length w at l)) (λ k h. go k (decLt k at) (decLt k (at + length l)))
-  where
-    go : (k : ℕ) → Dec (k < at) → Dec (k < at + length l) → getD x k 0 ≡ getD (put w at l) k 0
-    go k (yes lt) d = below k lt ∙ sym (put-below w at l k lt)
-    go k (no ge) (yes lt) =
-        let is : k ≡ at + (k - at) = omega arith in
-        ap (λ (j : ℕ). getD x j 0) is
-        ∙ inside (k - at) (omega arith)
-        ∙ sym (put-at w at l k (k - at) is (omega arith) room)
-    go k (no ge) (no past) = from k (omega arith) ∙ sym (put-from w at l k (omega arith))
+use Rattle.boardwords.proofs.Written.{put-is}
 
 -- the words of the line that holds these uses, read one by one
 line-at :

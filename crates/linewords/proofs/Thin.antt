@@ -20,17 +20,17 @@ use Rattle.boardwords.specs.Words.{wordIn, useRead, useAt, usesRead, lineRead}
 use Rattle.boardwords.specs.Codec.{useWords, lineWords, put}
 use Rattle.lists.proofs.Build.{build-length, build-at, past}
 use Rattle.linewords.specs.Thinned.{Thinned}
-use Rattle.boardwords.proofs.Back.{same-use as use-of}
+use Rattle.boardwords.proofs.Back.{same-use}
 use Rattle.boardwords.proofs.Boards.{held-size}
 use Rattle.boardwords.proofs.Put.{put-below, put-from}
-use Rattle.linewords.proofs.Places.{put-at}
-use Rattle.linewords.proofs.Lines.{same-use, cleared-put}
+use Rattle.boardwords.proofs.Written.{put-at}
+use Rattle.linewords.proofs.Lines.{cleared-put}
 
 module _ (f m : ℕ) (w₀ : List ℕ) (at : ℕ) where
   abbrev pub left : ℕ → List Use
   left k = staying f m (take k (usesRead (wordIn w₀) at))
 
-  pub left-few : (k : ℕ) → length (left k) ≤ k
+  left-few : (k : ℕ) → length (left k) ≤ k
   left-few k = let us : List Use = usesRead (wordIn w₀) at in omega (arith, few-stay f m (take k us), length-take k us)
 
   pub thin-size : 0 ≡ length (left 0)
@@ -64,7 +64,7 @@ module _ (f m : ℕ) (w₀ : List ℕ) (at : ℕ) where
 
     use-below : (i : ℕ) → i < n → useAt (wordIn x) at i ≡ useAt (wordIn w) at i
     use-below i h =
-        same-use (wordIn x) (wordIn w) (at + 3 * i) (at + 3 * i) (word-below (at + 3 * i) (omega arith))
+        same-use (useRead (wordIn w) (at + 3 * i)) (word-below (at + 3 * i) (omega arith))
         (word-below (at + 3 * i + 1) (omega arith)) (word-below (at + 3 * i + 2) (omega arith))
 
     use-at : useAt (wordIn x) at n ≡ v
@@ -72,7 +72,7 @@ module _ (f m : ℕ) (w₀ : List ℕ) (at : ℕ) where
         let p : wordIn x (at + 3 * n) ≡ v .point = word-at (at + 3 * n) 0 (omega arith) (omega arith) in
         let q : wordIn x (at + 3 * n + 1) ≡ v .offset = word-at (at + 3 * n + 1) 1 refl (omega arith) in
         let r : wordIn x (at + 3 * n + 2) ≡ v .length = word-at (at + 3 * n + 2) 2 refl (omega arith) in
-        use-of v p q r
+        same-use v p q r
 
     -- the uses us stood there, and behind them comes what stays of one use: o
     thin-next :
@@ -99,7 +99,7 @@ module _ (f m : ℕ) (w₀ : List ℕ) (at : ℕ) where
       let o : List Use = staying f m (u ∷ []) in
       let read : u ≡ useAt (wordIn w₀) at k =
       eu
-      ∙ same-use (wordIn w) (wordIn w₀) (at + 3 * k) (at + 3 * k) (t .behind (at + 3 * k) (omega arith))
+      ∙ same-use (useRead (wordIn w₀) (at + 3 * k)) (t .behind (at + 3 * k) (omega arith))
       (t .behind (at + 3 * k + 1) (omega arith)) (t .behind (at + 3 * k + 2) (omega arith)) in
       let all : left k ++ o ≡ left (k + 1) = sym (left-more k h ∙ ap (λ (a : Use). left k ++ staying f m (a ∷ [])) (sym read)) in
       let le : n ≤ k = omega (arith, left-few k) in
@@ -117,7 +117,7 @@ pub stay-put :
     → x ≡ put w at (lineWords (lineFrom (staying f m (lineOf (lineRead (wordIn w) at)))))
 stay-put f m w y x at n room few len size t is =
     cleared-put w (set y at n) x at n us size (omega (arith, most)) room (length-set y at n ∙ len) (getD-set-same y at n 0 (omega arith))
-    (λ i h. same-use (wordIn (set y at n)) (wordIn y) (at + 1 + 3 * i) (at + 1 + 3 * i) (other (at + 1 + 3 * i) (omega arith))
+    (λ i h. same-use (useRead (wordIn y) (at + 1 + 3 * i)) (other (at + 1 + 3 * i) (omega arith))
     (other (at + 1 + 3 * i + 1) (omega arith)) (other (at + 1 + 3 * i + 2) (omega arith))
     ∙ t .uses i (omega arith)) (λ k h. getD-set-other y at k n 0 (λ c. omega arith) ∙ t .before k (omega arith))
     (λ k h. other k (omega arith) ∙ t .behind k (omega arith)) is

@@ -1,11 +1,7 @@
-// Lines copied, laid into other words, tidied and thinned out, in the words of a board: 16 lines of 97 words from word 52 on.
-// It may use lists, lines and boardwords, and rules on nothing.
-mod clearing; // 0 in places not in use
-mod copying; // lines copied from other words, or laid into words that hold 0
+// Lines tidied and thinned out where they lie, in the words of a board: 16 lines of 97 words from word 52 on.
+// It may use plain, lists, lines and boardwords, and rules on nothing.
 mod thinning; // what stays when points leave
+mod tidying; // 0 in places not in use
 
-pub use clearing::clear;
-pub use clearing::tidy_lines;
-pub use copying::copy_lines;
-pub use copying::lay_lines;
 pub use thinning::stay_lines;
+pub use tidying::tidy_lines;

@@ -1,5 +1,5 @@
 // The lines without the uses of points that leave, the m points from f on.
-use crate::clearing::clear;
+use boardwords::clear;
 use boardwords::put_use;
 use boardwords::read_use;
 use lines::stay_count;

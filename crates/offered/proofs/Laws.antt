@@ -2,16 +2,15 @@
 --   action-within, action-known, record-is, step-within   the step that the reader stands at: its action is the plant's, its bytes lie in the offer
 --   next-at             where the next step starts;  count-at: how many allocations it has
 --   length-steps, steps-none, steps-next, steps-done      the steps held: none, one more, all of them
---   put-is, held-length, push-is, length-step-puts        an allocation, and one more of them held
---   StepHeld, step-none, step-long, step-tidy, step-more, step-over   the allocations of a step held behind others
---   PutsHeld, puts-none, puts-tidy, puts-more, puts-done  the allocations of the first steps held: none, one step more, all of them;  step-fits: there
---                       is room for one more
+--   allocation-is              an allocation, word by word;  length-step-puts: of a step there are as many as were asked for
+--   step-none, step-more, step-done   the allocations of a step, put behind others: none, one more, all of them
+--   puts-none, puts-next, puts-done   the allocations of the steps: of none, of one more, of all, which are the offer's
 use Prim.Native.Nat.{ℕ, zero, suc, _+_, _*_, _≤_, _<_}
 use native.Mathlib.Omega.{arith}
 use native.Mathlib.Numerals.{add-one}
 use mathlib.Core.Path.{_≡_, refl, sym, ap, ap₂, subst, _∙_}
-use mathlib.Core.List.{List, [], _∷_, _++_, append-assoc}
-use lib.ListN.{length, getD, set, replicate, length-append}
+use mathlib.Core.List.{List, [], _∷_, _++_, append-nil, append-assoc}
+use lib.ListN.{length, getD, set, replicate}
 use Rattle.words.specs.Word.{word}
 use Rattle.rulings.specs.declared.Ruling.the-variants.{Accepted}
 use Rattle.plant.specs.declared.Trailer.{Trailer}
@@ -20,13 +19,15 @@ use Rattle.offer.specs.Offer.{stepCount, stepStart, stepEnd, offerRuling}
 use Rattle.offer.proofs.Steps.{Step, read-of}
 use Rattle.plain.specs.declared.Step as Declared
 use Rattle.lines.specs.Padded.{padded}
-use Rattle.lines.proofs.Padded.{length-padded, padded-none, padded-push, take-padded}
+use Rattle.lines.proofs.Padded.{padded-none, padded-push}
+use Rattle.lists.specs.Loops.{build}
+use Rattle.lists.proofs.Build.{build-none}
 use Rattle.rulebook.specs.Reading.{recordOf, stepOf, stepsFrom, putOf, putsOfStep, putsFrom, offerOf}
 use Rattle.lines.specs.declared.Steps.{Steps}
 use Rattle.plain.specs.declared.Put.{Put}
-use Rattle.lines.specs.declared.Puts.{Puts}
-use Rattle.lines.specs.Held.{noStep, noPut, putsOf}
-use Rattle.offered.specs.Held.{stepsHeld, putsHeld}
+use Rattle.lines.specs.Held.{noStep}
+use Rattle.putwords.specs.Puts.{putAt, putsIn}
+use Rattle.offered.specs.Held.{stepsHeld}
 
 -- ---- the step that the reader stands at
 
@@ -98,31 +99,14 @@ steps-done p o h k en es ek =
     ap₂ (λ (n : ℕ) (l : List Declared.Step). record { count = n; steps = l }) (en ∙ sym (length-steps p o 0 k)) es
     ∙ ap (λ (n : ℕ). stepsHeld (stepsFrom p o 0 n)) ek
 
--- ---- the allocations held
+-- ---- the allocations
 
-pub put-is :
+pub allocation-is :
     (p o : List ℕ) (k start at j : ℕ) (a b c d : ℕ) → start ≡ recordOf p o k → at ≡ stepStart p o k
     → a ≡ word p (start + 28 + 12 * j) → b ≡ word o (at + 4 + 4 * j) → c ≡ word p (start + 28 + 12 * j + 4) → d ≡ word p (start + 28 + 12 * j + 8)
     → record { resource = a; place = b; step = k; offset = c; length = d } ≡ putOf p o k j
 unfolding putOf
-put-is p o k start at j a b c d es ea ra rb rc rd = rw (ra, rb, rc, rd, es, ea)
-
--- what is held, read back
-held-list : (l : List Put) → length l ≤ 32 → putsOf (putsHeld l) ≡ l
-held-list l h = take-padded 32 noPut l h
-
-held-length : (h : Puts) → h ≡ putsHeld (putsOf h) → length (putsOf h) ≡ h .count
-held-length h e = sym (ap (λ (x : Puts). x .count) e)
-
-pub push-is :
-    (h : Puts) (put : Put) → h .count < 32 → h ≡ putsHeld (putsOf h)
-    → record { count = h .count + 1; puts = set (h .puts) (h .count) put } ≡ putsHeld (putsOf h ++ (put ∷ []))
-push-is h put l e =
-    let n = held-length h e in
-    ap₂ (λ (i : ℕ) (x : List Put). record { count = i; puts = x })
-    (sym (length-append (putsOf h) (put ∷ []) ∙ ap (λ (i : ℕ). i + 1) n))
-    (ap₂ (λ (x : List Put) (i : ℕ). set x i put) (ap (λ (x : Puts). x .puts) e) (sym n)
-    ∙ padded-push 32 noPut (putsOf h) put (omega (arith, n)))
+allocation-is p o k start at j a b c d es ea ra rb rc rd = rw (ra, rb, rc, rd, es, ea)
 
 pub length-step-puts : (p o : List ℕ) (k j n : ℕ) → length (putsOfStep p o k j n) ≡ n
 unfolding putsOfStep
@@ -138,49 +122,25 @@ step-puts-end p o k j (suc n) =
     (sym (ap (putsOfStep p o k (j + 1)) (add-one n)) ∙ step-puts-end p o k (j + 1) n
     ∙ ap (λ (i : ℕ). putsOfStep p o k (j + 1) n ++ (putOf p o k i ∷ [])) (omega arith)))
 
-end-empty : (x : List Put) → x ++ [] ≡ x
-end-empty [] = refl
-end-empty (a ∷ x) = ap (λ (r : List Put). a ∷ r) (end-empty x)
+-- The first j allocations of step k, put behind the first `many` that the words held. Allocation by allocation, the words held f at first, hold g after
+-- j turns, and h after one more.
+module _ (p o : List ℕ) (k many : ℕ) (f : ℕ → Put) where
+  pub step-none : build f (many + 0) ≡ build f many ++ putsOfStep p o k 0 0
+  unfolding putsOfStep
+  step-none = ap (build f) {x = many + 0} {y = many} (omega arith) ∙ sym (append-nil (build f many))
 
--- h holds the list l and behind it the first j allocations of step k
-pub record StepHeld (p o : List ℕ) (k : ℕ) (l : List Put) (j : ℕ) (h : Puts) : Type 0 where
-  pub is : h ≡ putsHeld (l ++ putsOfStep p o k 0 j)
+  module _ (g : ℕ → Put) (j : ℕ) (e : build g (many + j) ≡ build f many ++ putsOfStep p o k 0 j) where
+    pub step-more :
+        (h : ℕ → Put) (put : Put) → put ≡ putOf p o k j → build h (many + j + 1) ≡ build g (many + j) ++ (put ∷ [])
+        → build h (many + (j + 1)) ≡ build f many ++ putsOfStep p o k 0 (j + 1)
+    step-more h put ep eh =
+        ap (build h) {x = many + (j + 1)} {y = many + j + 1} (omega arith) ∙ eh
+        ∙ ap₂ (λ (l : List Put) (a : Put). l ++ (a ∷ [])) e (ep ∙ ap (putOf p o k) {x = j} {y = 0 + j} (omega arith))
+        ∙ append-assoc (build f many) (putsOfStep p o k 0 j) (putOf p o k (0 + j) ∷ [])
+        ∙ ap (λ (l : List Put). build f many ++ l) (sym (step-puts-end p o k 0 j))
 
-pub step-none : (p o : List ℕ) (k : ℕ) (h : Puts) → h ≡ putsHeld (putsOf h) → StepHeld p o k (putsOf h) 0 h
-unfolding putsOfStep
-step-none p o k h e = record { is = e ∙ ap putsHeld (sym (end-empty (putsOf h))) }
-
-module _ {p o : List ℕ} {k : ℕ} {l : List Put} {j : ℕ} {h : Puts} (s : StepHeld p o k l j h) where
-  so-far : length (l ++ putsOfStep p o k 0 j) ≡ length l + j
-  so-far = length-append l (putsOfStep p o k 0 j) ∙ ap (λ (i : ℕ). length l + i) (length-step-puts p o k 0 j)
-
-  step-count : h .count ≡ length l + j
-  step-count = ap (λ (x : Puts). x .count) (s .is) ∙ so-far
-
-  pub step-long : length (h .puts) ≡ 32
-  step-long = ap (λ (x : Puts). length (x .puts)) (s .is) ∙ length-padded 32 noPut (l ++ putsOfStep p o k 0 j)
-
-  module _ (room : length l + j ≤ 32) where
-    listed : putsOf h ≡ l ++ putsOfStep p o k 0 j
-    listed = ap putsOf (s .is) ∙ held-list (l ++ putsOfStep p o k 0 j) (let n = so-far in omega (arith, n))
-
-    pub step-tidy : h ≡ putsHeld (putsOf h)
-    step-tidy = s .is ∙ ap putsHeld (sym listed)
-
-    pub step-more : (next : Puts) (put : Put) → put ≡ putOf p o k j → next ≡ putsHeld (putsOf h ++ (put ∷ [])) → StepHeld p o k l (j + 1) next
-    step-more next put ep en =
-        record {
-          is =
-              en
-              ∙ ap putsHeld
-              (ap₂ (λ (x : List Put) (y : Put). x ++ (y ∷ [])) listed ep
-              ∙ append-assoc l (putsOfStep p o k 0 j) (putOf p o k j ∷ [])
-              ∙ ap (λ (x : List Put). l ++ x)
-              (ap (λ (i : ℕ). putsOfStep p o k 0 j ++ (putOf p o k i ∷ [])) {x = j} {y = 0 + j} (omega arith) ∙ sym (step-puts-end p o k 0 j)));
-        }
-
-  pub step-over : (n : ℕ) → j ≡ n → h ≡ putsHeld (l ++ putsOfStep p o k 0 n)
-  step-over n q = rw (← q) (s .is)
+    pub step-done : (n : ℕ) → j ≡ n → build g (many + n) ≡ build f many ++ putsOfStep p o k 0 n
+    step-done n q = subst (λ (i : ℕ). build g (many + i) ≡ build f many ++ putsOfStep p o k 0 i) q e
 
 -- ---- step after step
 
@@ -188,7 +148,7 @@ puts-end :
     (p o : List ℕ) (k n : ℕ) → putsFrom p o k (n + 1) ≡ putsFrom p o k n ++ putsOfStep p o (k + n) 0 (allocationCount p (recordOf p o (k + n)))
 unfolding putsFrom
 puts-end p o k zero =
-    end-empty (putsOfStep p o k 0 (allocationCount p (recordOf p o k)))
+    append-nil (putsOfStep p o k 0 (allocationCount p (recordOf p o k)))
     ∙ ap (λ (i : ℕ). putsOfStep p o i 0 (allocationCount p (recordOf p o i))) (omega arith)
 puts-end p o k (suc n) =
     rw (add-one (suc n))
@@ -197,56 +157,22 @@ puts-end p o k (suc n) =
     ∙ ap (λ (i : ℕ). putsFrom p o (k + 1) n ++ putsOfStep p o i 0 (allocationCount p (recordOf p o i))) (omega arith))
     ∙ sym (append-assoc (putsOfStep p o k 0 (allocationCount p (recordOf p o k))) (putsFrom p o (k + 1) n) _))
 
--- h holds the allocations of the first k steps, at most 4 of each
-pub record PutsHeld (p o : List ℕ) (k : ℕ) (h : Puts) : Type 0 where
-  pub is : h ≡ putsHeld (putsFrom p o 0 k)
-  pub few : h .count ≤ 4 * k
-
-pub puts-none : (p o : List ℕ) (z : Put) → z ≡ noPut → PutsHeld p o 0 (record { count = 0; puts = replicate 32 z })
+pub puts-none : (p o w : List ℕ) → putsIn w 0 ≡ putsFrom p o 0 0
 unfolding putsFrom
-puts-none p o z e =
-    record {
-      is = ap (λ (l : List Put). record { count = 0; puts = l }) (ap (replicate 32) e ∙ padded-none 32 noPut);
-      few = omega arith;
-    }
+puts-none p o w = build-none (putAt w)
 
-module _ {p o : List ℕ} {k : ℕ} {h : Puts} (s : PutsHeld p o k h) (room : k ≤ 8) where
-  whole-list : putsOf h ≡ putsFrom p o 0 k
-  whole-list =
-      let n = ap (λ (x : Puts). x .count) (s .is) in
-      let f = s .few in
-      ap putsOf (s .is) ∙ held-list (putsFrom p o 0 k) (omega (arith, n, f))
+pub puts-next :
+    (p o : List ℕ) (k : ℕ) (x y : List Put) (start n : ℕ) → x ≡ putsFrom p o 0 k → y ≡ x ++ putsOfStep p o k 0 n → start ≡ recordOf p o k
+    → n ≡ allocationCount p start → y ≡ putsFrom p o 0 (k + 1)
+puts-next p o k x y start n e ey es en =
+    ey
+    ∙ ap₂ (λ (l : List Put) (i : ℕ). l ++ putsOfStep p o k 0 i) e (en ∙ ap (allocationCount p) es)
+    ∙ ap (λ (i : ℕ). putsFrom p o 0 k ++ putsOfStep p o i 0 (allocationCount p (recordOf p o i))) {x = k} {y = 0 + k} (omega arith)
+    ∙ sym (puts-end p o 0 k)
 
-  pub puts-tidy : h ≡ putsHeld (putsOf h)
-  puts-tidy = s .is ∙ ap putsHeld (sym whole-list)
-
-  pub puts-more :
-      (next : Puts) (start n : ℕ) → start ≡ recordOf p o k → n ≡ allocationCount p start → n ≤ 4
-      → next ≡ putsHeld (putsOf h ++ putsOfStep p o k 0 n) → PutsHeld p o (k + 1) next
-  puts-more next start n es en four e =
-      let length-is = length-append (putsOf h) (putsOfStep p o k 0 n) ∙ ap (λ (i : ℕ). length (putsOf h) + i) (length-step-puts p o k 0 n) in
-      let count = ap (λ (x : Puts). x .count) e ∙ length-is in
-      let before = held-length h puts-tidy in
-      let f = s .few in
-      record {
-        is = e ∙ ap putsHeld (ap₂ (λ (x : List Put) (i : ℕ). x ++ putsOfStep p o k 0 i) whole-list (en ∙ ap (allocationCount p) es) ∙ here ∙ sym (puts-end p o 0 k));
-        few = omega (arith, count, before, f);
-      }
-    where
-      here : putsFrom p o 0 k ++ putsOfStep p o k 0 (allocationCount p (recordOf p o k)) ≡ putsFrom p o 0 k ++ putsOfStep p o (0 + k) 0 (allocationCount p (recordOf p o (0 + k)))
-      here = ap (λ (i : ℕ). putsFrom p o 0 k ++ putsOfStep p o i 0 (allocationCount p (recordOf p o i))) (omega arith)
-
--- there is room for one allocation more of step k, behind those that g and h hold
-pub step-fits :
-    {p o : List ℕ} {k j : ℕ} {g h : Puts} → PutsHeld p o k g → StepHeld p o k (putsOf g) j h → k < 8 → j < 4
-    → (length (putsOf g) + j ≤ 32) × (h .count < 32)
-step-fits s t room four =
-    let n = held-length _ (puts-tidy s (omega arith)) in
-    (omega (arith, n, s .few), omega (arith, n, s .few, step-count t))
-
-pub puts-done : (p o : List ℕ) (h : Puts) (k : ℕ) → PutsHeld p o k h → k ≡ stepCount o → h ≡ putsHeld (offerOf p o .puts)
+pub puts-done : (p o : List ℕ) (k : ℕ) (x : List Put) → x ≡ putsFrom p o 0 k → k ≡ stepCount o → x ≡ offerOf p o .puts
 unfolding offerOf
-puts-done p o h k s e = s .is ∙ ap (λ (n : ℕ). putsHeld (putsFrom p o 0 n)) e
+puts-done p o k x e q = e ∙ ap (putsFrom p o 0) q
 
 -- the number of allocations, as the record's byte
 pub count-at : (p : List ℕ) (x start n : ℕ) → n ≡ allocationCount p (recordStart p x) → start ≡ recordStart p x → n ≡ allocationCount p start

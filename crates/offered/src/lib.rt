@@ -1,25 +1,27 @@
 // The offer as the plain machine takes it: the durations of its steps, and its allocations with their places, copied out of the bytes of
 // a good plant file and a good offer. It rules on nothing. It may use the readers (words, plant, offer), the rule book's definition of what
-// an offer says, and the arrays of lines.
-use lines::Puts;
+// an offer says, the arrays of lines, and allocations as words (putwords).
 use lines::Steps;
 use plain::Put;
 use plain::Step;
 use plant::Trailer;
 use plant::allocation_count;
 use plant::start_of;
+use putwords::push_put;
 use words::byte_at;
 use words::offset_at;
 use words::u32_at;
 ghost use mathlib.Core.Path.{_≡_};
-ghost use Prim.Native.Nat.{_+_, _*_, _≤_, _<_};
+ghost use mathlib.Core.List.{_++_};
+ghost use Prim.Native.Nat.{_+_, _*_, _≤_};
 ghost use lib.ListN.{length};
 ghost use Rattle.rulings.specs.declared.Ruling.the-variants.{Accepted};
 ghost use Rattle.plant.specs.Plant.{plantRuling, trailerOf, shortest, longest};
 ghost use Rattle.offer.specs.Offer.{offerRuling, stepStart};
-ghost use Rattle.rulebook.specs.Reading.{recordOf, putOf, offerOf};
-ghost use Rattle.lines.specs.Held.{noStep, noPut};
-ghost use Rattle.offered.specs.Held.{stepsHeld, putsHeld};
+ghost use Rattle.rulebook.specs.Reading.{recordOf, putOf, putsOfStep, offerOf};
+ghost use Rattle.lines.specs.Held.{noStep};
+ghost use Rattle.putwords.specs.Puts.{putsIn};
+ghost use Rattle.offered.specs.Held.{stepsHeld};
 
 fn no_step() -> Step
     ensures { λ r. ⌜ r ≡ noStep ⌝ }
@@ -63,18 +65,6 @@ pub fn read_durations(plant: &[u8], t: Trailer, offer: &[u8]) -> Steps
     held
 }
 
-fn no_put() -> Put
-    ensures { λ r. ⌜ r ≡ noPut ⌝ }
-{
-    Put {
-        resource: 0,
-        place: 0,
-        step: 0,
-        offset: 0,
-        length: 0,
-    }
-}
-
 // Allocation j of a step, whose action's record starts at `start` and whose bytes in the offer start at `at`.
 fn put_at(plant: &[u8], offer: &[u8], step: u32, start: usize, at: usize, j: usize) -> Put
     requires { ⌜ (start ≡ recordOf (now plant) (now offer) step) × (at ≡ stepStart (now plant) (now offer) step) ⌝ }
@@ -91,33 +81,43 @@ fn put_at(plant: &[u8], offer: &[u8], step: u32, start: usize, at: usize, j: usi
     }
 }
 
-// The allocations of the offer, step by step. Each is stored where it stays: an array that goes from function to function is copied at every call.
-pub fn read_puts(plant: &[u8], t: Trailer, offer: &[u8]) -> Puts
-    requires { ⌜ (plantRuling (now plant) ≡ Accepted) × (t ≡ trailerOf (now plant)) × (offerRuling (now plant) (now offer) ≡ Accepted) ⌝ }
-    ensures { λ r. ⌜ r ≡ putsHeld (offerOf (now (plant .entry)) (now (offer .entry)) .puts) ⌝ }
+// The n allocations of step k, put behind the first `many`. The action's record starts at `start`, the step's bytes in the offer at `at`.
+fn push_step(
+    plant: &[u8],
+    offer: &[u8],
+    k: u32,
+    start: usize,
+    at: usize,
+    n: usize,
+    puts: &mut [u32],
+    many: usize,
+)
+    requires { ⌜ (start ≡ recordOf (now plant) (now offer) k) × (at ≡ stepStart (now plant) (now offer) k) ⌝ }
+    requires { ⌜ (start + 28 + 12 * n ≤ length (now plant)) × (at + 4 + 4 * n ≤ length (now offer)) × (5 * (many + n) ≤ length (now puts)) ⌝ }
+    ensures { λ _. ⌜ putsIn (now (puts .exit)) (many + n) ≡ putsIn (now (puts .entry)) many ++ putsOfStep (now (plant .entry)) (now (offer .entry)) k 0 n ⌝ }
 {
-    let none = no_put();
+    for j in 0..n {
+        push_put(puts, many + j, put_at(plant, offer, k, start, at, j));
+    }
+}
+
+// The allocations of the offer, step by step, into words that hold as many as an offer may have.
+pub fn read_puts(plant: &[u8], t: Trailer, offer: &[u8], puts: &mut [u32]) -> usize
+    requires { ⌜ (plantRuling (now plant) ≡ Accepted) × (t ≡ trailerOf (now plant)) × (offerRuling (now plant) (now offer) ≡ Accepted) × (160 ≤ length (now puts)) ⌝ }
+    ensures { λ r. ⌜ putsIn (now (puts .exit)) r ≡ offerOf (now (plant .entry)) (now (offer .entry)) .puts ⌝ }
+{
     let count = u32_at(offer, 20);
-    let mut held = Puts {
-        count: 0,
-        puts: [none; 32],
-    };
+    let mut many = 0;
     let mut at = 24;
     let mut k = 0;
     while k < count {
         let action = u32_at(offer, at);
         let start = start_of(plant, t, action);
         let n = allocation_count(plant, t, action);
-        let mut j = 0;
-        while j < n {
-            let put = put_at(plant, offer, k, start, at, j);
-            let c = held.count;
-            held.puts[c] = put;
-            held.count = c + 1;
-            j += 1;
-        }
+        push_step(plant, offer, k, start, at, n, puts, many);
+        many += n;
         at = at + 4 + 4 * n;
         k += 1;
     }
-    held
+    many
 }

@@ -2,7 +2,8 @@
 --   Joins s o next m rs   what an accepted draft brings: as many points as the offer has, its job behind the others, room for them, and
 --                         usable rules, few enough
 --   DraftJoins s o q  a draft stops, or joins so;  drafted-joins shows it
-use mathlib.Core.Path.{_≡_, refl}
+--   drafted-lines     where it joins, the lines to be are those with its allocations put in, which all fit
+use mathlib.Core.Path.{_≡_, refl, sym, _∙_, ap}
 use mathlib.Core.Bool.{Bool, true, false, cond}
 use mathlib.Core.List.{List, [], _∷_, _++_}
 use Prim.Native.Nat.{ℕ, suc, _+_, _-_, _*_, _≤_, _<_}
@@ -46,6 +47,8 @@ use Rattle.gaps.specs.Cells.{Usable}
 use Rattle.offered.specs.Sized.{SizedStep, SizedPut, SizedOffer}
 use Rattle.sound.specs.Sound.{SizedJob}
 use Rattle.board.proofs.OnSound.{Fits}
+use Rattle.lines.specs.Placing.{allWith, AllFit}
+use Rattle.lines.proofs.Placing.{placed-done}
 use Rattle.planning.proofs.Placed.{Placing, placed-all}
 
 -- ---- uses
@@ -190,3 +193,29 @@ module _
             (all-map (SizedPut (length (o .steps))) (λ p. Fits n (usedFrom (liveCount s) p)) (λ p. put-fits n (liveCount s) (length (o .steps)) p (omega arith)) (o .puts) (offer .puts))
             (all-map (All (Fits (liveCount s))) (All (Fits n)) (λ l. all-map (Fits (liveCount s)) (Fits n) (λ u. wider u) l) (s .lines) lines)
             tt (omega (arith, offer .count))) e
+
+-- ---- the lines to be
+
+unfoldable linesToBe : Draft → List (List Use)
+linesToBe (Draft.stop c) = []
+linesToBe (Draft.go next m rs) = next .lines
+
+pub drafted-lines :
+    (s : State) (o : Offer) (next : State) (m : ℕ) (rs : List Rule) → drafted s o ≡ Draft.go next m rs
+    → AllFit (liveCount s) (s .lines) (o .puts) × (next .lines ≡ allWith (liveCount s) (s .lines) (o .puts))
+unfolding drafted joining linesToBe
+drafted-lines s o next m rs e = go (full s (pointsOf o)) e
+  where
+    by :
+        (q : Placed) → placed (liveCount s) 0 (o .puts) (s .lines) [] ≡ q → joining s o q ≡ Draft.go next m rs
+        → AllFit (liveCount s) (s .lines) (o .puts) × (next .lines ≡ allWith (liveCount s) (s .lines) (o .puts))
+    by (Placed.stop c) is e = let z : _≡_ {A = ℕ} 0 1 = cc in absurd (omega arith)
+    by (Placed.done ls qs) is e =
+        let fits = placed-done (liveCount s) 0 (o .puts) (s .lines) ls [] qs is in
+        (fits .0, sym (ap linesToBe e) ∙ fits .1)
+
+    go :
+        (b : Bool) → cond b (Draft.stop (plain 14)) (joining s o (placed (liveCount s) 0 (o .puts) (s .lines) [])) ≡ Draft.go next m rs
+        → AllFit (liveCount s) (s .lines) (o .puts) × (next .lines ≡ allWith (liveCount s) (s .lines) (o .puts))
+    go true e = let z : _≡_ {A = ℕ} 0 1 = cc in absurd (omega arith)
+    go false e = by (placed (liveCount s) 0 (o .puts) (s .lines) []) refl e

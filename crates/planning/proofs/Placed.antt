@@ -14,7 +14,8 @@ use Rattle.plain.specs.declared.Use.{Use}
 use Rattle.plain.specs.declared.Put.{Put}
 use Rattle.plain.specs.declared.Rule.{Rule}
 use Rattle.plain.specs.Plain.{noUse, inOrder, inserted, ruleBefore, ruleAfter, usedFrom, placed, Placed}
-use Rattle.lines.proofs.Placing.{lineFor, linesWith, rulesFor, placed-keeps}
+use Rattle.lines.specs.Placing.{lineFor, linesWith}
+use Rattle.lines.proofs.Placing.{rulesFor, placed-keeps}
 use Rattle.lines.proofs.RuleLaws.{before-few, after-few}
 use Rattle.lists.specs.All.{All}
 use Rattle.lists.proofs.All.{all-at, all-get, all-append, all-set}

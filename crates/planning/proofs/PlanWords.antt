@@ -1,8 +1,10 @@
 -- Laws of plan's call on a board that is lent as its words. Assumes nothing.
---   few-lines       the lines of a sound board are small enough to be laid into other words
---   laid-lines      laid there, they hold what the board's lines hold, and are Ready
---   drafted-words   a draft on them is one on the board
---   plan-words      what trying the rules and adding the job ask, and what plan's answer is: 17, or the job joins
+--   sound-lined      what a draft asks of the lines of a sound board
+--   tidied-lines    tidied, they hold what they held, and are Ready
+--   Planning        a draft that went on
+--   plan-asks       what trying the rules and adding the job ask
+--   plan-17         the answer where the rules do not agree
+--   plan-puts, plan-joins   where they do: what putting in the uses asks, and the answer
 use Prim.Native.Nat.{ℕ, zero, suc, _+_, _<_, _≤_}
 use mathlib.Core.Path.{_≡_, refl, sym, _∙_, ap, ap₂, subst}
 use mathlib.Core.Bool.{Bool, true, false}
@@ -12,12 +14,12 @@ use lib.ListN.{length, getD, length-map, length-take}
 use Rattle.rulings.specs.declared.Ruling.the-variants.{Accepted, Refused}
 use Rattle.rulings.specs.Answer.{plain}
 use Rattle.plain.specs.declared.Use.{Use}
-use Rattle.plain.specs.Plain.{State, Offer, noUse, total, liveCount, jobFrom, drafted}
-use Rattle.lists.specs.Loops.{rewritten}
+use Rattle.plain.specs.Plain.{Offer, noUse, total, liveCount, jobFrom, drafted}
+use Rattle.lines.specs.declared.Jobs.{Jobs}
 use Rattle.lines.specs.declared.Line.{Line}
 use Rattle.lines.specs.Held.{jobsOf, jobsFrom, lineOf, lineFrom, linesOf, linesFrom, rulesOf, noLine}
-use Rattle.lines.specs.Held as Held
 use Rattle.lines.specs.Asked.{Lined, Ready}
+use Rattle.lines.specs.Placing.{allWith, AllFit}
 use Rattle.lines.proofs.Padded.{length-padded}
 use Rattle.lines.proofs.DraftLaws.{tidied-ready}
 use Rattle.stn.specs.Table.{bias, Closed}
@@ -29,17 +31,19 @@ use Rattle.boardwords.specs.Codec.{linesWords, put}
 use Rattle.lists.proofs.Build.{build-length}
 use Rattle.boardwords.proofs.Boards.{held-jobs}
 use Rattle.boardwords.proofs.Lent.{lentTable, wordsWith, cells-lent, unwritten}
-use Rattle.linewords.proofs.Copied.{copied-put, written-lines}
+use Rattle.boardwords.proofs.Put.{length-lines}
+use Rattle.boardwords.proofs.Written.{put-again, written-lines}
 use Rattle.sound.specs.Sound.{sound}
 use Rattle.drafts.specs.declared.drafting.Drafted.{Drafted}
 use Rattle.drafts.specs.DraftedAs.{DraftedAs}
-use Rattle.drafts.proofs.PlaceLaws.{line-few}
+use Rattle.drafts.specs.Moment.{linesIn}
+use Rattle.board.specs.declared.Ruled.{Ruled}
 use Rattle.board.specs.Boards.{stateOf}
 use Rattle.board.specs.Calls.{decided}
 use Rattle.board.specs.InWords.{wordsAfter}
 use Rattle.jobwords.specs.Fronted.{fronted}
 use Rattle.board.proofs.OnSound.{lined}
-use Rattle.board.proofs.InWords.{lines-many, is-sound, horizon-is, jobs-sized, length-fronted, assembled, answered, unanswered}
+use Rattle.board.proofs.InWords.{lines-many, is-sound, horizon-is, jobs-sized, lines-kept, length-fronted, assembled, answered, unanswered}
 use Rattle.planning.proofs.Planned.{Going, going, asked, none-left, joined}
 
 -- ---- lines laid into arrays
@@ -54,78 +58,107 @@ held-few [] h k = omega arith
 held-few (q ∷ ls) h zero = let n = length-take (q .count) (q .uses) in omega (arith, n, h 0)
 held-few (q ∷ ls) h (suc k) = held-few ls (λ i. h (suc i)) k
 
--- ---- the draft
+-- ---- the lines
 
 module _ (w : List ℕ) (e : sound (boardIn w) ≡ true) where
-  lined-read : Lined (linesRead (wordIn w))
-  lined-read = lined (boardIn w) (is-sound w e) (lines-many w)
+  pub sound-lined : Lined (linesRead (wordIn w))
+  sound-lined = lined (boardIn w) (is-sound w e) (lines-many w)
 
-  pub few-lines : (k : ℕ) → getD (linesRead (wordIn w)) k noLine .count ≤ 32
-  few-lines = lined-read .counts
-
-  pub laid-lines :
-      (u z : List ℕ) → 1604 ≤ length u → z ≡ put u 52 (linesWords (linesFrom (linesOf (linesRead (wordIn w)))))
-      → (linesOf (linesRead (wordIn z)) ≡ linesOf (boardIn w .lines)) × Ready (linesRead (wordIn z))
-  laid-lines u z room ez =
+  tidied-lines :
+      (x y : List ℕ) → 1604 ≤ length x → linesRead (wordIn x) ≡ linesRead (wordIn w)
+      → y ≡ put x 52 (linesWords (linesFrom (linesOf (linesRead (wordIn x)))))
+      → (linesIn y ≡ linesIn w) × Ready (linesRead (wordIn y))
+  tidied-lines x y room kept ey =
       let ls = linesRead (wordIn w) in
       let many : length ls ≡ 16 = build-length (lineAt (wordIn w)) 16 in
-      let back : linesRead (wordIn z) ≡ linesFrom (linesOf ls) =
-      ap (λ (y : List ℕ). linesRead (wordIn y)) ez
-      ∙ written-lines u (linesFrom (linesOf ls)) room (length-map (linesOf ls) lineFrom ∙ (length-map ls lineOf ∙ many))
-      (λ k h. held-full ls k (omega (arith, many))) (λ k h. held-few ls few-lines k) in
-      tidied-ready ls (linesRead (wordIn z)) lined-read many back
-
-  pub drafted-words :
-      (z : List ℕ) → linesOf (linesRead (wordIn z)) ≡ linesOf (boardIn w .lines) → (o : Offer) (r : Drafted) (after : List Line)
-      → DraftedAs r after (drafted (Held.stateOf (heldJobs (wordIn w)) (linesRead (wordIn z)) (wordIn w 2) (boardIn w .horizon) (wordIn w 1)) o) → DraftedAs r after (drafted (stateOf (boardIn w)) o)
-  drafted-words z el o r after =
-      let is : Held.stateOf (heldJobs (wordIn w)) (linesRead (wordIn z)) (wordIn w 2) (boardIn w .horizon) (wordIn w 1) ≡ stateOf (boardIn w) =
-      ap (λ (l : List (List Use)). record { jobs = jobsOf (heldJobs (wordIn w)); lines = l; clock = wordIn w 2; horizon = boardIn w .horizon; lead = wordIn w 1 }) el in
-      subst (λ (s : State). DraftedAs r after (drafted s o)) is
+      let back : linesRead (wordIn y) ≡ linesFrom (linesOf ls) =
+      ap (λ (v : List ℕ). linesRead (wordIn v)) (ey ∙ ap (λ (l : List Line). put x 52 (linesWords (linesFrom (linesOf l)))) kept)
+      ∙ written-lines x (linesFrom (linesOf ls)) room (length-map (linesOf ls) lineFrom ∙ (length-map ls lineOf ∙ many))
+      (λ k h. held-full ls k (omega (arith, many))) (λ k h. held-few ls (sound-lined .counts) k) in
+      tidied-ready ls (linesRead (wordIn y)) sound-lined many back
 
 -- ---- the answer
 
-module _
-    (w : List ℕ) (len : length w ≡ 5829) (e : sound (boardIn w) ≡ true) (o : Offer) (sized : SizedOffer o) (r : Drafted) (drawn : List Line)
-    (d : DraftedAs r drawn (drafted (stateOf (boardIn w)) o)) (goes : r .ruling ≡ Accepted)
-  where
-    -- what trying the rules and adding the job ask, the words where the rules do not agree, and where they do
-    pub plan-words :
-        (n m : ℕ) → n ≡ suc (total (jobsOf (heldJobs (wordIn w)))) → m ≡ suc (length (o .steps))
-        → ((0 < n) × (n + m ≤ 65) × (wordIn w 0 ≤ bias) × Closed n (tableOf (lentTable w)))
-        × ((r .rules .count ≤ 82) × AllUsable (n + m) (rulesOf (r .rules)))
-        × (wordIn w 3 < 16)
-        × ((ok : Bool) (t : List ℕ) → outcome ok t ≡ addedAll (rulesOf (r .rules)) (n + m) (grown (lentTable w) n m (wordIn w 0))
-        → (ok ≡ false → t ≡ lentTable w
-        → (Refused (plain 17) ≡ decided (boardIn w) (drafted (stateOf (boardIn w)) o) .ruling)
-        × (wordsWith w t ≡ wordsAfter w (decided (boardIn w) (drafted (stateOf (boardIn w)) o))))
-        × ((next x z : List ℕ) → ok ≡ true → length (wordsWith w t) ≡ 5829
-        → x ≡ fronted (wordsWith w t) (wordIn w 2) (jobsFrom (jobsOf (heldJobs (wordIn w)) ++ (jobFrom o ∷ [])))
-        → drawn ≡ linesRead (wordIn next) → Ready (linesRead (wordIn next)) → z ≡ rewritten (wordIn next) x 52 1604
-        → (Accepted ≡ decided (boardIn w) (drafted (stateOf (boardIn w)) o) .ruling)
-        × (z ≡ wordsAfter w (decided (boardIn w) (drafted (stateOf (boardIn w)) o)))))
-    unfolding liveCount
-    plan-words n m en em = (
-      (a .0 .0, a .0 .1, subst (λ (h : ℕ). h ≤ bias) (sym (horizon-is w e)) (a .0 .2), subst (λ (l : List ℕ). Closed n (tableOf l)) (sym (cells-lent w len)) (a .0 .3)),
-      a .1,
-      omega (arith, g .joins .jobs, held-jobs (wordIn w) (jobs-sized w e .count)),
-      (λ ok t eo.
-          let eb = eo ∙ ap₂ (λ (l : List ℕ) (h : ℕ). addedAll (rulesOf (r .rules)) (n + m) (grown l n m h)) (cells-lent w len) (horizon-is w e) in (
-            (λ no kept.
-                let q = unanswered w (decided (boardIn w) (drafted (stateOf (boardIn w)) o)) (boardIn w) (plain 17) (none-left g n m en em ok t eb no) in
-                (q .0, unwritten w len t kept ∙ q .1)),
-            (λ next x z yes size ex ed ready ez.
-                let new = jobsFrom (jobsOf (heldJobs (wordIn w)) ++ (jobFrom o ∷ [])) in
-                answered w z (decided (boardIn w) (drafted (stateOf (boardIn w)) o)) _ (joined g n m en em ok t eb new drawn yes refl refl)
-                (assembled w e len t (wordIn w 2) new x ex size drawn z
-                (copied-put x next z (omega (arith, length-fronted w e len t (wordIn w 2) new x ex size)) ez (λ k h. line-few ready k h)
-                ∙ ap (λ (ls : List Line). put x 52 (linesWords ls)) (sym ed)))),
-          )),
-    )
-      where
-        g : Going (boardIn w) o r drawn
-        g = going (boardIn w) o r drawn d (is-sound w e) (lines-many w) sized goes
+-- a draft that went on: what holds where the rules are tried, for n live points and m new ones
+pub record Planning (w : List ℕ) (o : Offer) (r : Drafted) (n m : ℕ) : Type 0 where
+  pub size : length w ≡ 5829
+  pub is-sound : sound (boardIn w) ≡ true
+  pub sized : SizedOffer o
+  pub is-drafted : DraftedAs r (drafted (stateOf (boardIn w)) o)
+  pub goes : r .ruling ≡ Accepted
+  pub live : n ≡ suc (total (jobsOf (heldJobs (wordIn w))))
+  pub new : m ≡ suc (length (o .steps))
 
-        a : ((0 < n) × (n + m ≤ 65) × (boardIn w .horizon ≤ bias) × Closed n (tableOf (boardIn w .gaps)))
-            × ((r .rules .count ≤ 82) × AllUsable (n + m) (rulesOf (r .rules)))
-        a = asked g n m en em (is-sound w e)
+module _ {w : List ℕ} {o : Offer} {r : Drafted} {n m : ℕ} (p : Planning w o r n m) where
+  abbrev answer : Ruled
+  answer = decided (boardIn w) (drafted (stateOf (boardIn w)) o)
+
+  abbrev jobs-then : Jobs
+  jobs-then = jobsFrom (jobsOf (heldJobs (wordIn w)) ++ (jobFrom o ∷ []))
+
+  g : Going (boardIn w) o r
+  g = going (boardIn w) o r (p .is-drafted) (is-sound w (p .is-sound)) (lines-many w) (p .sized) (p .goes)
+
+  -- what trying the rules and adding the job ask
+  pub plan-asks :
+      ((0 < n) × (n + m ≤ 65) × (wordIn w 0 ≤ bias) × Closed n (tableOf (lentTable w)))
+      × ((r .rules .count ≤ 82) × AllUsable (n + m) (rulesOf (r .rules)))
+      × (wordIn w 3 < 16)
+  unfolding liveCount
+  plan-asks =
+      let a = asked g n m (p .live) (p .new) (is-sound w (p .is-sound)) in (
+        (
+          a .0 .0,
+          a .0 .1,
+          subst (λ (h : ℕ). h ≤ bias) (sym (horizon-is w (p .is-sound))) (a .0 .2),
+          subst (λ (l : List ℕ). Closed n (tableOf l)) (sym (cells-lent w (p .size))) (a .0 .3),
+        ),
+        a .1,
+        omega (arith, g .joins .jobs, held-jobs (wordIn w) (jobs-sized w (p .is-sound) .count)),
+      )
+
+  module _ (ok : Bool) (t : List ℕ) (eo : outcome ok t ≡ addedAll (rulesOf (r .rules)) (n + m) (grown (lentTable w) n m (wordIn w 0))) where
+    on-board : outcome ok t ≡ addedAll (rulesOf (r .rules)) (n + m) (grown (boardIn w .gaps) n m (boardIn w .horizon))
+    on-board = eo ∙ ap₂ (λ (l : List ℕ) (h : ℕ). addedAll (rulesOf (r .rules)) (n + m) (grown l n m h)) (cells-lent w (p .size)) (horizon-is w (p .is-sound))
+
+    -- the words where the rules do not agree
+    pub plan-17 : ok ≡ false → t ≡ lentTable w → (Refused (plain 17) ≡ answer .ruling) × (wordsWith w t ≡ wordsAfter w answer)
+    unfolding liveCount
+    plan-17 fails kept =
+        let q = unanswered w answer (boardIn w) (plain 17) (none-left g n m (p .live) (p .new) ok t on-board fails) in
+        (q .0, unwritten w (p .size) t kept ∙ q .1)
+
+    -- and where they do: x with the job, and y with the lines tidied
+    module _
+        (holds : ok ≡ true) (same : length (wordsWith w t) ≡ 5829) (x y : List ℕ) (ex : x ≡ fronted (wordsWith w t) (wordIn w 2) jobs-then)
+        (ey : y ≡ put x 52 (linesWords (linesFrom (linesOf (linesRead (wordIn x))))))
+      where
+        long : length x ≡ 5829
+        long = length-fronted w (p .is-sound) (p .size) t (wordIn w 2) jobs-then x ex same
+
+        tidy : (linesIn y ≡ linesIn w) × Ready (linesRead (wordIn y))
+        tidy = tidied-lines w (p .is-sound) x y (omega (arith, long)) (lines-kept w (p .is-sound) (p .size) t (wordIn w 2) jobs-then x ex) ey
+
+        -- what putting in the uses asks
+        pub plan-puts : Ready (linesRead (wordIn y)) × AllFit n (linesIn y) (o .puts)
+        unfolding liveCount
+        plan-puts = (
+          tidy .1,
+          subst (λ (k : ℕ). AllFit k (linesIn y) (o .puts)) (sym (p .live))
+              (subst (λ (ls : List (List Use)). AllFit (liveCount (stateOf (boardIn w))) ls (o .puts)) (sym (tidy .0)) (g .fits)),
+        )
+
+        -- and the words with them
+        pub plan-joins :
+            (z : List ℕ) → z ≡ put y 52 (linesWords (linesFrom (allWith n (linesIn y) (o .puts))))
+            → (Accepted ≡ answer .ruling) × (z ≡ wordsAfter w answer)
+        unfolding liveCount
+        plan-joins z ez =
+            let old = linesFrom (linesOf (linesRead (wordIn x))) in
+            let lines = linesFrom (allWith n (linesIn y) (o .puts)) in
+            let as-drafted = ap₂ (λ (k : ℕ) (ls : List (List Use)). linesFrom (allWith k ls (o .puts))) (p .live) (tidy .0) in
+            answered w z answer _ (joined g n m (p .live) (p .new) ok t on-board jobs-then lines holds refl as-drafted)
+            (assembled w (p .is-sound) (p .size) t (wordIn w 2) jobs-then x ex same lines z
+            (ez
+            ∙ ap (λ (v : List ℕ). put v 52 (linesWords lines)) ey
+            ∙ put-again x 52 (linesWords old) (linesWords lines) (length-lines old ∙ sym (length-lines lines)) (omega (arith, long, length-lines lines))))

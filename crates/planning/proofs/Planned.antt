@@ -1,5 +1,5 @@
 -- Laws of plan's call. Assumes nothing.
---   Going b o r ls    what the code holds of a draft that goes on: the state to be, its points and rules;  going shows it
+--   Going b o r       what the code holds of a draft that goes on: the state to be, its points and rules;  going shows it
 --   asked             what trying the rules asks
 --   stopped, none-left, joined   the answer to an offer that was read, case by case
 --   held-offer, held-list, held-count, held-read   the offer as the code holds it
@@ -10,72 +10,79 @@ use native.Mathlib.Omega.{arith}
 use mathlib.Core.Path.{_≡_, refl, sym, ap, subst, _∙_}
 use mathlib.Core.Bool.{Bool, true, false}
 use mathlib.Core.List.{List, [], _∷_, _++_}
-use lib.ListN.{length}
+use lib.ListN.{length, getD}
 use Rattle.rulings.specs.declared.Cause.{Cause}
 use Rattle.rulings.specs.declared.Ruling.{Ruling}
 use Rattle.rulings.specs.declared.Ruling.the-variants.{Accepted, Refused}
 use Rattle.rulings.proofs.Laws.{refused-no}
 use Rattle.plant.specs.Plant.{plantRuling}
 use Rattle.offer.specs.Offer.{offerRuling, chainRuling, factCheck}
+use Rattle.plain.specs.declared.Put.{Put}
 use Rattle.plain.specs.declared.Rule.{Rule}
 use Rattle.plain.specs.Plain.{Offer, State, Draft, liveCount, jobFrom, drafted}
 use Rattle.lines.specs.declared.Jobs.{Jobs}
 use Rattle.lines.specs.declared.Line.{Line}
-use Rattle.lines.specs.declared.Puts.{Puts}
+use Rattle.putwords.specs.Puts.{putAt, putsIn}
 use Rattle.lines.specs.declared.Steps.{Steps}
-use Rattle.lines.specs.Held.{jobsOf, jobsFrom, linesFrom, rulesOf, rulesFrom, noPut, noStep, stepsOf}
+use Rattle.lines.specs.Held.{jobsOf, jobsFrom, linesFrom, rulesOf, rulesFrom, noStep, stepsOf}
 use Rattle.lines.specs.Held as Held
-use Rattle.lines.specs.Asked.{Read}
-use Rattle.lines.proofs.Padded.{take-padded, padded-at}
+use Rattle.lines.specs.Asked.{Readable}
+use Rattle.lines.specs.Placing.{allWith, AllFit}
+use Rattle.lines.proofs.Padded.{take-padded}
+use Rattle.lists.proofs.Build.{build-length, build-at}
 use Rattle.lists.proofs.All.{all-at}
 use Rattle.stn.specs.Table.{bias, Closed}
 use Rattle.gaps.specs.Cells.{tableOf, grown}
 use Rattle.rulebook.specs.Reading.{offerOf, onRuling, readingOf}
-use Rattle.offered.specs.Held.{stepsHeld, putsHeld}
+use Rattle.offered.specs.Held.{stepsHeld}
 use Rattle.offered.specs.Sized.{SizedPut, SizedOffer}
 use Rattle.settling.specs.Settled.{AllUsable, addedAll, outcome}
 use Rattle.boardwords.specs.declared.Board.{Board}
 use Rattle.sound.specs.Sound.{Sound, sound}
 use Rattle.drafts.specs.declared.drafting.Drafted.{Drafted}
 use Rattle.drafts.specs.DraftedAs.{DraftedAs}
+use Rattle.drafts.specs.Moment.{ReadPuts}
 use Rattle.board.specs.Boards.{stateOf, boardOf}
 use Rattle.board.specs.Calls.{refused, refusal, settled, after, decided, heard, planned}
-use Rattle.planning.proofs.Drafts.{Joins, DraftJoins, drafted-joins}
+use Rattle.planning.proofs.Drafts.{Joins, DraftJoins, drafted-joins, drafted-lines}
 use Rattle.board.proofs.OnSound.{rules-back, closed, fitting}
 
 -- ---- an offer that was read
 
-pub record Going (b : Board) (o : Offer) (r : Drafted) (lines : List Line) : Type 0 where
+pub record Going (b : Board) (o : Offer) (r : Drafted) : Type 0 where
   pub next : State
   pub m : ℕ
   pub rs : List Rule
   pub is : drafted (stateOf b) o ≡ Draft.go next m rs
-  pub after : lines ≡ linesFrom (next .lines)
   pub rules : r .rules ≡ rulesFrom rs
   pub joins : Joins (stateOf b) o next m rs
+  -- its allocations fit, and the lines to be are those with them put in
+  pub fits : AllFit (liveCount (stateOf b)) (stateOf b .lines) (o .puts)
+  pub lines : next .lines ≡ allWith (liveCount (stateOf b)) (stateOf b .lines) (o .puts)
 
-module _ (b : Board) (o : Offer) (r : Drafted) (lines : List Line) (e : DraftedAs r lines (drafted (stateOf b) o)) where
+module _ (b : Board) (o : Offer) (r : Drafted) (e : DraftedAs r (drafted (stateOf b) o)) where
   pub stopped : (c : Cause) → r .ruling ≡ Refused c → refused b c ≡ decided b (drafted (stateOf b) o)
   unfolding decided DraftedAs
   stopped c h = go (drafted (stateOf b) o) e
     where
-      go : (q : Draft) → DraftedAs r lines q → refused b c ≡ decided b q
+      go : (q : Draft) → DraftedAs r q → refused b c ≡ decided b q
       go (Draft.stop d) f = ap (λ (x : Ruling). record { ruling = x; board = b }) (sym h ∙ f)
       go (Draft.go next m rs) f = absurd (refused-no c (sym h ∙ f .0))
 
-  pub going : Sound b → length (b .lines) ≡ 16 → SizedOffer o → r .ruling ≡ Accepted → Going b o r lines
+  pub going : Sound b → length (b .lines) ≡ 16 → SizedOffer o → r .ruling ≡ Accepted → Going b o r
   unfolding DraftedAs DraftJoins
   going s size sized h =
       let h1 = s .horizon .1 in
       go (drafted (stateOf b) o) refl e
       (drafted-joins (stateOf b) o (s .sizes) (unfold liveCount in fitting b s size) (omega (arith, h1, s .clock, s .lead)) sized)
     where
-      go : (q : Draft) → drafted (stateOf b) o ≡ q → DraftedAs r lines q → DraftJoins (stateOf b) o q → Going b o r lines
+      go : (q : Draft) → drafted (stateOf b) o ≡ q → DraftedAs r q → DraftJoins (stateOf b) o q → Going b o r
       go (Draft.stop c) is f j = absurd (refused-no c (sym f ∙ h))
       go (Draft.go next m rs) is f j =
-          record { next = next; m = m; rs = rs; is = is; after = f .1; rules = f .2; joins = j }
+          let new = drafted-lines (stateOf b) o next m rs is in
+          record { next = next; m = m; rs = rs; is = is; rules = f .1; joins = j; fits = new .0; lines = new .1 }
 
-module _ {b : Board} {o : Offer} {r : Drafted} {drawn : List Line} (g : Going b o r drawn) where
+module _ {b : Board} {o : Offer} {r : Drafted} (g : Going b o r) where
   rules-are : rulesOf (r .rules) ≡ g .rs
   rules-are = ap rulesOf (g .rules) ∙ rules-back (g .rs) (g .joins .few)
 
@@ -104,7 +111,8 @@ module _ {b : Board} {o : Offer} {r : Drafted} {drawn : List Line} (g : Going b 
       none-left f = subst (λ (x : Bool). settled b 17 (g .next) (outcome x cells) ≡ decided b (drafted (stateOf b) o)) f tried
 
       pub joined :
-          (jobs : Jobs) (lines : List Line) → ok ≡ true → jobs ≡ jobsFrom (jobsOf (b .jobs) ++ (jobFrom o ∷ [])) → lines ≡ drawn
+          (jobs : Jobs) (lines : List Line) → ok ≡ true → jobs ≡ jobsFrom (jobsOf (b .jobs) ++ (jobFrom o ∷ []))
+          → lines ≡ linesFrom (allWith (liveCount (stateOf b)) (stateOf b .lines) (o .puts))
           → record {
             ruling = Accepted;
             board = record { horizon = b .horizon; lead = b .lead; clock = b .clock; jobs = jobs; lines = lines; gaps = cells };
@@ -112,20 +120,17 @@ module _ {b : Board} {o : Offer} {r : Drafted} {drawn : List Line} (g : Going b 
           ≡ decided b (drafted (stateOf b) o)
       unfolding settled outcome
       joined jobs lines t ej el =
-          ap (λ (x : Board). record { ruling = Accepted; board = x }) (board-is jobs lines ej el)
+          ap (λ (x : Board). record { ruling = Accepted; board = x }) board-is
           ∙ subst (λ (x : Bool). settled b 17 (g .next) (outcome x cells) ≡ decided b (drafted (stateOf b) o)) t tried
         where
-          board-is :
-              (jobs : Jobs) (lines : List Line) → jobs ≡ jobsFrom (jobsOf (b .jobs) ++ (jobFrom o ∷ [])) → lines ≡ drawn
-              → record { horizon = b .horizon; lead = b .lead; clock = b .clock; jobs = jobs; lines = lines; gaps = cells } ≡ boardOf (g .next) cells
-          board-is jobs lines ej el = rw (ej, el, g .joins .listed, g .after, g .joins .clock, g .joins .horizon, g .joins .lead)
+          board-is : record { horizon = b .horizon; lead = b .lead; clock = b .clock; jobs = jobs; lines = lines; gaps = cells } ≡ boardOf (g .next) cells
+          board-is = rw (ej, el, g .joins .listed, g .lines, g .joins .clock, g .joins .horizon, g .joins .lead)
 
 -- ---- the offer as the code holds it
 
-module _ (o : Offer) (s : SizedOffer o) (steps : Steps) (puts : Puts) (es : steps ≡ stepsHeld (o .steps)) (ep : puts ≡ putsHeld (o .puts)) where
-  pub held-offer : (batch : ℕ) → batch ≡ o .batch → Held.heldOffer batch steps puts ≡ o
-  held-offer batch eb =
-      rw (eb, es, ep, take-padded 8 noStep (o .steps) (s .few), take-padded 32 noPut (o .puts) (s .count))
+module _ (o : Offer) (s : SizedOffer o) (steps : Steps) (es : steps ≡ stepsHeld (o .steps)) where
+  pub held-offer : (batch : ℕ) (ps : List Put) → batch ≡ o .batch → ps ≡ o .puts → Held.heldOffer batch steps ps ≡ o
+  held-offer batch ps eb ep = rw (eb, es, ep, take-padded 8 noStep (o .steps) (s .few))
 
   pub held-list : steps .count ≡ length (stepsOf steps)
   held-list = rw (es, take-padded 8 noStep (o .steps) (s .few))
@@ -133,15 +138,17 @@ module _ (o : Offer) (s : SizedOffer o) (steps : Steps) (puts : Puts) (es : step
   pub held-count : (steps .count ≡ length (o .steps)) × (steps .count ≤ 8)
   held-count = let n = ap (λ (x : Steps). x .count) es in (n, omega (arith, n, s .few))
 
-  pub held-read : Read puts
-  held-read =
-      rw ep
-      (record {
-        count = s .count;
-        each = λ k h.
-            rw (padded-at 32 noPut (o .puts) k (omega (arith, s .count)))
-            (all-at (SizedPut (length (o .steps))) (o .puts) noPut (s .puts) k h .readable);
-      })
+pub held-read : (o : Offer) → SizedOffer o → (puts : List ℕ) (n : ℕ) → 160 ≤ length puts → putsIn puts n ≡ o .puts → ReadPuts puts n
+held-read o s puts n room e =
+    let many : n ≡ length (o .puts) = sym (build-length (putAt puts) n) ∙ ap length e in
+    record {
+      there = omega (arith, many, s .count);
+      few = omega (arith, many, s .count);
+      each = λ k h.
+          let is : getD (o .puts) k (putAt puts k) ≡ putAt puts k =
+          ap (λ (ps : List Put). getD ps k (putAt puts k)) (sym e) ∙ build-at (putAt puts) n k (putAt puts k) h in
+          subst Readable is (all-at (SizedPut (length (o .steps))) (o .puts) (putAt puts k) (s .puts) k (omega (arith, many)) .readable);
+    }
 
 -- ---- before the offer is read
 

@@ -1,14 +1,12 @@
 // Plans a job, on a board that is lent as its words: the offer is read, its rules are tried on the table, and its job is put behind the others.
-// The lines are drafted in words of their own, which are copied back where all went well. An accepted plan leaves the words of the board after it,
+// Nothing but the table is written before the last test, and that is put back where it fails. An accepted plan leaves the words of the board after it,
 // and a refused one the words that came.
 // It may use board (definitions and laws), the readers and the parts of the board.
-use drafts::Drafted;
 use drafts::draft;
+use drafts::insert_all;
 use jobwords::add_job;
-use lines::Puts;
 use lines::Steps;
-use linewords::copy_lines;
-use linewords::lay_lines;
+use linewords::tidy_lines;
 use offer::check_chain;
 use offer::read_offer;
 use offered::read_durations;
@@ -25,45 +23,32 @@ use sound::points_in;
 use words::u32_at;
 ghost use mathlib.Core.Path.{_≡_};
 ghost use mathlib.Core.Bool.{true};
-ghost use Prim.Native.Nat.{ℕ, _≤_};
+ghost use Prim.Native.Nat.{_≤_};
 ghost use lib.ListN.{length};
 ghost use Rattle.rulings.specs.declared.Ruling.the-variants.{Accepted};
 ghost use Rattle.plant.specs.Plant.{plantRuling, trailerOf};
-ghost use Rattle.plain.specs.Plain.{total, drafted};
-ghost use Rattle.lines.specs.Held.{jobsOf, stepsOf, heldOffer};
-ghost use Rattle.lines.specs.Asked.{Ready, Read};
+ghost use Rattle.plain.specs.Plain.{drafted};
+ghost use Rattle.lines.specs.Held.{stepsOf, heldOffer};
+ghost use Rattle.putwords.specs.Puts.{putsIn};
 ghost use Rattle.rulebook.specs.Reading.{readingOf};
 ghost use Rattle.offered.specs.Sized.{SizedOffer};
-ghost use Rattle.boardwords.specs.Words.{wordIn, heldJobs, linesRead, boardIn};
+ghost use Rattle.boardwords.specs.Words.{boardIn};
 ghost use Rattle.sound.specs.Sound.{sound};
-ghost use Rattle.drafts.specs.DraftedAs.{DraftedAs};
+ghost use Rattle.drafts.specs.Moment.{ReadPuts};
 ghost use Rattle.board.specs.Boards.{stateOf};
 ghost use Rattle.board.specs.Calls.{decided, heard, planned};
 ghost use Rattle.board.specs.InWords.{wordsAfter};
 
-// The draft of an offer that was read, on a sound board of n points beside the origin: its lines are those of `next`, which holds 0 before.
-fn draft_on(w: &[u32], next: &mut [u32], n: u32, batch: u32, steps: Steps, puts: Puts) -> Drafted
-    requires { ⌜ (length (now w) ≡ 5829) × (length (now next) ≡ 1604) ⌝ }
-    requires { ⌜ (sound (boardIn (now w)) ≡ true) × (n ≡ total (jobsOf (heldJobs (wordIn (now w))))) × (steps .count ≤ 8) × Read puts ⌝ }
-    requires { ⌜ ((k : ℕ) → wordIn (now next) k ≡ 0) ⌝ }
-    ensures drafted { λ r. ⌜ DraftedAs r (linesRead (wordIn (now (next .exit)))) (drafted (stateOf (boardIn (now (w .entry)))) (heldOffer batch steps puts)) ⌝ }
-    ensures ready { λ _. ⌜ Ready (linesRead (wordIn (now (next .exit)))) ⌝ }
-{
-    lay_lines(next, w);
-    draft(next, w, n, batch, steps, puts)
-}
-
 // An offer that was read, on a sound board: 14 to 17, or the words of the board with its job.
-fn plan_job(w: &mut [u32], batch: u32, steps: Steps, puts: Puts) -> Ruling
+fn plan_job(w: &mut [u32], batch: u32, steps: Steps, puts: &[u32], many: usize) -> Ruling
     requires { ⌜ length (now w) ≡ 5829 ⌝ }
-    requires { ⌜ (sound (boardIn (now w)) ≡ true) × (steps .count ≡ length (stepsOf steps)) × (steps .count ≤ 8) × Read puts × SizedOffer (heldOffer batch steps puts) ⌝ }
-    ensures ruling { λ r. ⌜ r ≡ decided (boardIn (now (w .entry))) (drafted (stateOf (boardIn (now (w .entry)))) (heldOffer batch steps puts)) .ruling ⌝ }
-    ensures words { λ _. ⌜ now (w .exit) ≡ wordsAfter (now (w .entry)) (decided (boardIn (now (w .entry))) (drafted (stateOf (boardIn (now (w .entry)))) (heldOffer batch steps puts))) ⌝ }
+    requires { ⌜ (sound (boardIn (now w)) ≡ true) × (steps .count ≡ length (stepsOf steps)) × (steps .count ≤ 8) × ReadPuts (now puts) many × SizedOffer (heldOffer batch steps (putsIn (now puts) many)) ⌝ }
+    ensures ruling { λ r. ⌜ r ≡ decided (boardIn (now (w .entry))) (drafted (stateOf (boardIn (now (w .entry)))) (heldOffer batch steps (putsIn (now (puts .entry)) many))) .ruling ⌝ }
+    ensures words { λ _. ⌜ now (w .exit) ≡ wordsAfter (now (w .entry)) (decided (boardIn (now (w .entry))) (drafted (stateOf (boardIn (now (w .entry)))) (heldOffer batch steps (putsIn (now (puts .entry)) many)))) ⌝ }
 {
     let horizon = w[0];
     let n = points_in(w);
-    let mut next = [0u32; 1604];
-    let drafted = draft_on(w, &mut next, n, batch, steps, puts);
+    let drafted = draft(w, n, batch, steps, puts, many);
     let ruling = drafted.ruling;
     if let Ruling::Refused(cause) = ruling {
         return Ruling::Refused(cause);
@@ -80,7 +65,8 @@ fn plan_job(w: &mut [u32], batch: u32, steps: Steps, puts: Puts) -> Ruling
             sent: false,
         },
     );
-    copy_lines(w, &next);
+    tidy_lines(w);
+    insert_all(w, n + 1, puts, many);
     Ruling::Accepted
 }
 
@@ -100,8 +86,9 @@ fn plan_offer(w: &mut [u32], plant: &[u8], end: Trailer, offer: &[u8]) -> Ruling
         return Ruling::Refused(cause);
     }
     let steps = read_durations(plant, end, offer);
-    let puts = read_puts(plant, end, offer);
-    plan_job(w, u32_at(offer, 0), steps, puts)
+    let mut puts = [0u32; 160];
+    let many = read_puts(plant, end, offer, &mut puts);
+    plan_job(w, u32_at(offer, 0), steps, &puts, many)
 }
 
 // The first of refusals 1 to 4, 6 and 7 to 17, or the words of the board with the offer's job.

@@ -22,9 +22,9 @@ use Rattle.plain.specs.Plain.{noUse, goes, notAfter, endOf, endsBy, allEndBy}
 use Rattle.lines.specs.declared.Line.{Line}
 use Rattle.lines.specs.Held.{lineOf, linesOf, noLine}
 use Rattle.lines.specs.Asked.{AllShort, Lined}
-use Rattle.lines.proofs.Lists.{held-next, map-at}
+use Rattle.lines.proofs.Lists.{held-next}
 use Rattle.boardwords.specs.Words.{Words, useRead, useAt, usesRead, lineRead, lineAt, linesRead}
-use Rattle.boardwords.proofs.Boards.{line-of}
+use Rattle.boardwords.proofs.Boards.{line-of, line-count, line-held}
 use Rattle.lists.proofs.Build.{build-length, build-at}
 use Rattle.stn.specs.Table.{bias, implied}
 use Rattle.stn.proofs.Fits.{implied-append}
@@ -130,11 +130,7 @@ module _ (w : Words) (at k : ℕ) (few : w at ≤ 32) (h : k < w at) (u : Use) (
 -- ---- lines of a board's words
 
 pub lined-read : (w : Words) (k : ℕ) → k < 16 → Lined (linesRead w) → (w (52 + 97 * k) ≤ 32) × AllShort (lineOf (lineAt w k))
-lined-read w k h l =
-    let size : length (linesRead w) ≡ 16 = build-length (lineAt w) 16 in
-    let held : getD (linesOf (linesRead w)) k [] ≡ lineOf (lineAt w k) =
-    map-at lineOf (linesRead w) k noLine [] (omega arith) ∙ ap lineOf (line-of w k h) in
-    (omega (arith, ap (λ (q : Line). q .count) (line-of w k h), l .counts k), subst AllShort held (l .short k))
+lined-read w k h l = (omega (arith, line-count w k h, l .counts k), subst AllShort (line-held w k h) (l .short k))
 
 module _ (l : List ℕ) (c f m : ℕ) (w : Words) (k : ℕ) (ok : Bool)
     (is : (ok && linesEnd l c f m (drop k (linesRead w))) ≡ linesEnd l c f m (linesRead w)) where

@@ -1,5 +1,5 @@
 -- `put_at` meets its contract, word by word.
-use Rattle.offered.proofs.Laws.{put-is}
+use Rattle.offered.proofs.Laws.{allocation-is}
 use Prim.Native.Nat.{_-_}
 use borrow.Author.Needs.{needs}
 use Rattle.offered.proofs.put_at.Statement.{statement}
@@ -42,7 +42,7 @@ u32-at-requires-4 : tie.Need-u32-at-requires-4
 u32-at-requires-4 c κs = search needs
 
 returns : tie.Need-returns
-returns c = put-is _ _ _ _ _ _ _ _ _ _ (c .before .before .before .before .before .before .pre .0 .0) (c .before .before .before .before .before .before .pre .0 .1) (c .before .before .before .u32-at .ensures) (c .before .before .u32-at2 .ensures) (c .before .u32-at3 .ensures) (c .u32-at4 .ensures)
+returns c = allocation-is _ _ _ _ _ _ _ _ _ _ (c .before .before .before .before .before .before .pre .0 .0) (c .before .before .before .before .before .before .pre .0 .1) (c .before .before .before .u32-at .ensures) (c .before .before .u32-at2 .ensures) (c .before .u32-at3 .ensures) (c .u32-at4 .ensures)
 
 pub put-at-spec : {M : Type 1} → statement M
 put-at-spec =

@@ -1,6 +1,7 @@
 -- `draft` meets its contract: 14, a stop of placing, or the job joins. That it is not 14 bounds the number of points.
 use lib.ListN.{length-take, length}
 use Rattle.plain.specs.Plain.{liveCount}
+use Rattle.putwords.specs.Puts.{putsIn}
 use Rattle.lines.specs.Held.{stepsOf, stateOf, heldOffer}
 use Rattle.lines.proofs.Lists.{length-held, length-mapped}
 use Rattle.lines.proofs.DraftLaws.{within}
@@ -27,18 +28,17 @@ refused-requires : tie.Need-refused-requires
 refused-requires c κs = search needs
 
 returns : tie.Need-returns
-returns c = let entry = c .before .before .before .before .before .before in (
-  λ H.
-      let A = entry .args in
-      let v = wordIn (A .w .now) in
-      let s = stateOf (heldJobs v) (linesRead (wordIn (A .next .now))) (v 2) H (v 1) in
-      let o = heldOffer (A .batch) (A .steps) (A .puts) in
-      let len : length (A .steps .steps) ≡ 8 = search (needs, length-mapped, entry .good .1 .1 .1 .1 .0) in
-      let size = length-held (A .steps .count) (A .steps .steps) (omega (arith, entry .pre .1 .1 .1)) in
-      stops-as (c .refused .result) _ _ (plain 14) (c .refused .ensures)
-      (drafted-full s o (A .steps .count) (sym size) (sym (c .before .before .is-full .ensures s refl) ∙ c .before .if1 .taken)),
-  entry .pre .1 .1 .0,
-)
+returns c =
+    let entry = c .before .before .before .before .before .before in
+    let A = entry .args in
+    let v = wordIn (A .w .now) in
+    λ H.
+    let s = stateOf (heldJobs v) (linesRead v) (v 2) H (v 1) in
+    let o = heldOffer (A .batch) (A .steps) (putsIn (A .puts .now) (A .many)) in
+    let len : length (A .steps .steps) ≡ 8 = search (needs, length-mapped, entry .good .1 .1 .1 .0) in
+    let size = length-held (A .steps .count) (A .steps .steps) (omega (arith, entry .pre .1 .1 .1)) in
+    stops-as (c .refused .result) _ (plain 14) (c .refused .ensures)
+    (drafted-full s o (A .steps .count) (sym size) (sym (c .before .before .is-full .ensures s refl) ∙ c .before .if1 .taken))
 
 add-first : tie.Need-add-first
 add-first c = search needs
@@ -53,22 +53,27 @@ add-begin-rules : tie.Need-add-begin-rules
 add-begin-rules c = search needs
 
 begin-rules-requires : tie.Need-begin-rules-requires
-begin-rules-requires c κs = let entry = c .before .before .before .before .before .before .before in
+begin-rules-requires c κs =
+    let entry = c .before .before .before .before .before .before .before in
     let A = entry .args in
     let v = wordIn (A .w .now) in
-    let s = stateOf (heldJobs v) (linesRead (wordIn (A .next .now))) (v 2) 0 (v 1) in
+    let s = stateOf (heldJobs v) (linesRead v) (v 2) 0 (v 1) in
     let fits = within s (A .steps .count + 1) (sym (c .before .before .before .is-full .ensures s refl) ∙ c .before .before .if1 .left) in
     (omega (arith, entry .pre .1 .0 .1, fits .1), entry .pre .1 .1 .1)
 
 place-all-requires : tie.Need-place-all-requires
-place-all-requires c κs = let entry = c .before .before .before .before .before .before .before .before .before in
+place-all-requires c κs =
+    let entry = c .before .before .before .before .before .before .before .before in
     let A = entry .args in
     let v = wordIn (A .w .now) in
-    let s = stateOf (heldJobs v) (linesRead (wordIn (A .next .now))) (v 2) 0 (v 1) in
-    let fits = within s (A .steps .count + 1) (sym (c .before .before .before .before .before .is-full .ensures s refl) ∙ c .before .before .before .before .if1 .left) in
+    let s = stateOf (heldJobs v) (linesRead v) (v 2) 0 (v 1) in
+    let fits = within s (A .steps .count + 1) (sym (c .before .before .before .before .is-full .ensures s refl) ∙ c .before .before .before .if1 .left) in
     let few : length (stepsOf (A .steps)) ≤ 8 = omega (arith, entry .pre .1 .1 .1, length-take (A .steps .count) (A .steps .steps)) in (
-      entry .pre .0 .0,
-      (omega (arith, entry .pre .1 .0 .1, fits .1), entry .pre .1 .1 .2, entry .pre .1 .1 .0, start-room _ _ (stepsOf (A .steps)) (c .before .begin-rules .result) few (c .before .begin-rules .ensures)),
+      entry .pre .0,
+      entry .pre .1 .1 .0,
+      entry .pre .1 .1 .2,
+      omega (arith, entry .pre .1 .0 .1, fits .1),
+      start-room _ _ (stepsOf (A .steps)) (c .begin-rules .result) few (c .begin-rules .ensures),
     )
 
 enum-known-ruling : tie.Need-enum-known-ruling
@@ -77,28 +82,24 @@ enum-known-ruling c = search needs
 refused-requires-2 : tie.Need-refused-requires-2
 refused-requires-2 c κs = search needs
 
-same-length : tie.Need-same-length
-same-length c = search needs
-
 returns-2 : tie.Need-returns-2
 unfolding liveCount
-returns-2 c = let entry = c .before .before .before .before .before .before .before .before .before .before .before .before .before .before .before .before in (
-  λ H.
-      let A = entry .args in
-      let v = wordIn (A .w .now) in
-      let s = stateOf (heldJobs v) (linesRead (wordIn (A .next .now))) (v 2) H (v 1) in
-      let o = heldOffer (A .batch) (A .steps) (A .puts) in
-      let len : length (A .steps .steps) ≡ 8 = search (needs, length-mapped, entry .good .1 .1 .1 .1 .0) in
-      let size = length-held (A .steps .count) (A .steps .steps) (omega (arith, entry .pre .1 .1 .1)) in
-      let few : length (stepsOf (A .steps)) ≤ 8 = omega (arith, entry .pre .1 .1 .1, size) in
-      let first : A .n + 1 ≡ liveCount s = omega (arith, entry .pre .1 .0 .1) in
-      let not-full = sym (c .before .before .before .before .before .before .before .before .before .before .before .before .is-full .ensures s refl) ∙ c .before .before .before .before .before .before .before .before .before .before .before .if1 .left in
-      let began = c .before .before .before .before .before .before .before .before .begin-rules in
-      let placing = c .before .before .before .before .before .before .place-all in
-      stops-as (c .refused2 .result) _ _ _ (c .refused2 .ensures)
-      (drafted-stop s o (A .n + 1) (A .steps .count) first (sym size) not-full few (began .result) (began .ensures) (placing .result .ruling) _ (placing .result .rules) (placing .ensures .0) _ (c .before .before .ruling .given .1)),
-  c .before .before .before .before .before .before .place-all .ensures .1 .0,
-)
+returns-2 c =
+    let entry = c .before .before .before .before .before .before .before .before .before .before .before .before .before in
+    let A = entry .args in
+    let v = wordIn (A .w .now) in
+    λ H.
+    let s = stateOf (heldJobs v) (linesRead v) (v 2) H (v 1) in
+    let o = heldOffer (A .batch) (A .steps) (putsIn (A .puts .now) (A .many)) in
+    let len : length (A .steps .steps) ≡ 8 = search (needs, length-mapped, entry .good .1 .1 .1 .0) in
+    let size = length-held (A .steps .count) (A .steps .steps) (omega (arith, entry .pre .1 .1 .1)) in
+    let few : length (stepsOf (A .steps)) ≤ 8 = omega (arith, entry .pre .1 .1 .1, size) in
+    let first : A .n + 1 ≡ liveCount s = omega (arith, entry .pre .1 .0 .1) in
+    let not-full = sym (c .before .before .before .before .before .before .before .before .before .is-full .ensures s refl) ∙ c .before .before .before .before .before .before .before .before .if1 .left in
+    let began = c .before .before .before .before .before .begin-rules in
+    let placing = c .before .before .before .before .place-all in
+    stops-as (c .refused2 .result) _ _ (c .refused2 .ensures)
+    (drafted-stop s o (A .n + 1) (A .steps .count) first (sym size) not-full few (began .result) (began .ensures) (placing .result .ruling) _ (placing .result .rules) (placing .ensures .0) _ (c .before .before .ruling .given .1))
 
 enum-told : tie.Need-enum-told
 enum-told c = search needs
@@ -109,28 +110,24 @@ add-add-batch c = search needs
 add-batch-requires : tie.Need-add-batch-requires
 add-batch-requires c κs = search needs
 
-same-length-2 : tie.Need-same-length-2
-same-length-2 c = search needs
-
 returns-3 : tie.Need-returns-3
 unfolding liveCount
-returns-3 c = let entry = c .before .before .before .before .before .before .before .before .before .before .before .before .before .before .before .before in (
-  λ H.
-      let A = entry .args in
-      let v = wordIn (A .w .now) in
-      let s = stateOf (heldJobs v) (linesRead (wordIn (A .next .now))) (v 2) H (v 1) in
-      let o = heldOffer (A .batch) (A .steps) (A .puts) in
-      let len : length (A .steps .steps) ≡ 8 = search (needs, length-mapped, entry .good .1 .1 .1 .1 .0) in
-      let size = length-held (A .steps .count) (A .steps .steps) (omega (arith, entry .pre .1 .1 .1)) in
-      let few : length (stepsOf (A .steps)) ≤ 8 = omega (arith, entry .pre .1 .1 .1, size) in
-      let first : A .n + 1 ≡ liveCount s = omega (arith, entry .pre .1 .0 .1) in
-      let not-full = sym (c .before .before .before .before .before .before .before .before .before .before .before .before .is-full .ensures s refl) ∙ c .before .before .before .before .before .before .before .before .before .before .before .if1 .left in
-      let began = c .before .before .before .before .before .before .before .before .begin-rules in
-      let placing = c .before .before .before .before .before .before .place-all in
-      drafted-made s o (A .n + 1) (A .steps .count) first (sym size) not-full few (began .result) (began .ensures) (placing .result .ruling) _ (placing .result .rules) (placing .ensures .0)
-      _ (c .add-batch .result) (c .before .before .enum-told .given .1) (placing .ensures .1 .0 .tidy) (c .add-batch .ensures),
-  c .before .before .before .before .before .before .place-all .ensures .1 .0,
-)
+returns-3 c =
+    let entry = c .before .before .before .before .before .before .before .before .before .before .before .before .before in
+    let A = entry .args in
+    let v = wordIn (A .w .now) in
+    λ H.
+    let s = stateOf (heldJobs v) (linesRead v) (v 2) H (v 1) in
+    let o = heldOffer (A .batch) (A .steps) (putsIn (A .puts .now) (A .many)) in
+    let len : length (A .steps .steps) ≡ 8 = search (needs, length-mapped, entry .good .1 .1 .1 .0) in
+    let size = length-held (A .steps .count) (A .steps .steps) (omega (arith, entry .pre .1 .1 .1)) in
+    let few : length (stepsOf (A .steps)) ≤ 8 = omega (arith, entry .pre .1 .1 .1, size) in
+    let first : A .n + 1 ≡ liveCount s = omega (arith, entry .pre .1 .0 .1) in
+    let not-full = sym (c .before .before .before .before .before .before .before .before .before .is-full .ensures s refl) ∙ c .before .before .before .before .before .before .before .before .if1 .left in
+    let began = c .before .before .before .before .before .begin-rules in
+    let placing = c .before .before .before .before .place-all in
+    drafted-made s o (A .n + 1) (A .steps .count) first (sym size) not-full few (began .result) (began .ensures) (placing .result .ruling) _ (placing .result .rules) (placing .ensures .0)
+    (c .add-batch .result) (c .before .before .enum-told .given .1) (c .add-batch .ensures)
 
 pub draft-spec : {M : Type 1} → statement M
 draft-spec =
@@ -149,10 +146,8 @@ draft-spec =
     place-all-requires
     enum-known-ruling
     refused-requires-2
-    same-length
     returns-2
     enum-told
     add-add-batch
     add-batch-requires
-    same-length-2
     returns-3)

@@ -1,123 +1,102 @@
--- `place_one` meets its contract: stopped by 15, stopped by 16, or put in, as the plain machine does with the first allocation of a list.
+-- `place_one` meets its contract: stopped by 15, stopped by 16, or placed with its rules, as the plain machine does with the first allocation of a list.
+use Prim.Native.Nat.{_<_}
 use mathlib.Core.List.{[]}
-use lib.ListN.{getD}
+use mathlib.Core.Path.{refl, sym, _∙_, ap, subst}
+use lib.ListN.{length}
 use native.Mathlib.Omega.{arith}
 use borrow.Author.Needs.{needs}
 use Rattle.rulings.specs.Answer.{cause}
-use Rattle.lines.specs.Held.{lineOf, linesOf, noLine}
-use Rattle.boardwords.specs.Words.{wordIn, linesRead}
-use Rattle.drafts.proofs.PlaceLaws.{of-at, placed-far, placed-full, used-short, turn-stops, words-size, words-few, words-tidy, words-short, words-turn}
+use Rattle.plain.specs.Plain.{ruleBefore, ruleAfter, usedFrom}
+use Rattle.plain.specs.declared.Put.{Put}
+use Rattle.putwords.specs.Puts.{putAt, putsIn}
+use Rattle.lines.specs.Held.{maybeFrom}
+use Rattle.lines.specs.Asked.{Readable}
+use Rattle.lines.specs.Placing.{lineFor, allWith}
+use Rattle.drafts.specs.Moment.{linesIn}
+use Rattle.drafts.proofs.Moments.{read-less}
+use Rattle.drafts.proofs.PlaceLaws.{placed-far, placed-full, turn-stops, turn-goes}
 use Rattle.drafts.proofs.placing.place_one.Statement.{statement}
 use Rattle.drafts.proofs.placing.place_one.Tie as tie
 
-cast-at : tie.Need-cast-at
-cast-at c = search needs
-
-mul-at : tie.Need-mul-at
-mul-at c = search needs
-
-add-at : tie.Need-add-at
-add-at c = search needs
+read-put-requires : tie.Need-read-put-requires
+read-put-requires c κs = omega (arith, c .before .before .pre .0 .2 .there)
 
 cast-place : tie.Need-cast-place
 cast-place c = search needs
 
-mul-count : tie.Need-mul-count
-mul-count c = search needs
+number-in-requires : tie.Need-number-in-requires
+number-in-requires c κs =
+    let p = c .before .before .before .before .pre in
+    (p .0 .0, p .0 .1, read-less _ _ _ (p .0 .2) (omega arith), subst (λ (y : Put). y .resource < 16) (sym (c .before .read-put .ensures)) (p .0 .2 .each _ (omega arith) .resource))
 
-slice-read-count : tie.Need-slice-read-count
-slice-read-count c = search needs
-
-cast-count : tie.Need-cast-count
-cast-count c = let entry = c .before .before .before .before in
-    omega (arith, words-few (wordIn (entry .args .w .now)) (entry .pre .1 .2) (entry .args .put .resource) (entry .pre .1 .1 .resource))
+cast-t11 : tie.Need-cast-t11
+cast-t11 c = omega (arith, c .before .before .before .before .before .before .pre .0 .2 .few)
 
 stopped-requires : tie.Need-stopped-requires
 stopped-requires c κs = search needs
 
 returns : tie.Need-returns
 returns c =
-    let entry = c .before .before .before .before .before .before in
-    let A = entry .args in
-    let r = A .put .resource in
-    let ready = entry .pre .1 .2 in
-    let v = linesRead (wordIn (A .w .now)) in
-    let size = words-size (wordIn (entry .args .w .now)) ready r (entry .pre .1 .1 .resource) in
-    turn-stops (A .first) (A .i) (A .put) v (c .stopped .result) (cause 15 (A .i)) ready (c .stopped .ensures)
-    (λ rs. placed-far (A .first) (A .i) (A .put) [] (linesOf v) rs (lineOf (getD v r noLine)) (of-at v r) (omega (arith, size)))
+    let A = c .before .before .before .before .before .before .before .args in
+    let ls = allWith (A .first) (linesIn (A .w .now)) (putsIn (A .puts .now) (A .k)) in
+    let q = putAt (A .puts .now) (A .k) in
+    let size = c .before .before .number-in .ensures (A .first) ∙ ap (λ (y : Put). length (lineFor ls y)) (c .before .before .before .before .read-put .ensures) in
+    let place = ap (λ (y : Put). y .place) (c .before .before .before .before .read-put .ensures) in
+    turn-stops (A .first) (A .k) q ls (c .stopped .result) (cause 15 (A .k)) (c .stopped .ensures)
+    (λ rs. placed-far (A .first) (A .k) q [] ls rs (lineFor ls q) refl (omega (arith, size, place, c .before .if1 .taken)))
+
+cast-t13 : tie.Need-cast-t13
+cast-t13 c = omega (arith, c .before .before .before .before .before .before .before .pre .0 .2 .few)
 
 stopped-requires-2 : tie.Need-stopped-requires-2
 stopped-requires-2 c κs = search needs
 
 returns-2 : tie.Need-returns-2
 returns-2 c =
-    let entry = c .before .before .before .before .before .before .before in
-    let A = entry .args in
-    let r = A .put .resource in
-    let ready = entry .pre .1 .2 in
-    let v = linesRead (wordIn (A .w .now)) in
-    let size = words-size (wordIn (entry .args .w .now)) ready r (entry .pre .1 .1 .resource) in
-    turn-stops (A .first) (A .i) (A .put) v (c .stopped2 .result) (cause 16 (A .i)) ready (c .stopped2 .ensures)
-    (λ rs. placed-full (A .first) (A .i) (A .put) [] (linesOf v) rs (lineOf (getD v r noLine)) (of-at v r) (omega (arith, size)) (omega (arith, size)))
-
-used-from-requires : tie.Need-used-from-requires
-used-from-requires c κs = search needs
+    let A = c .before .before .before .before .before .before .before .before .args in
+    let ls = allWith (A .first) (linesIn (A .w .now)) (putsIn (A .puts .now) (A .k)) in
+    let q = putAt (A .puts .now) (A .k) in
+    let size = c .before .before .before .number-in .ensures (A .first) ∙ ap (λ (y : Put). length (lineFor ls y)) (c .before .before .before .before .before .read-put .ensures) in
+    let place = ap (λ (y : Put). y .place) (c .before .before .before .before .before .read-put .ensures) in
+    turn-stops (A .first) (A .k) q ls (c .stopped2 .result) (cause 16 (A .k)) (c .stopped2 .ensures)
+    (λ rs. placed-full (A .first) (A .k) q [] ls rs (lineFor ls q) refl (omega (arith, size, place, c .before .before .if1 .left)) (omega (arith, size, c .before .if2 .taken)))
 
 rule-before-requires : tie.Need-rule-before-requires
 rule-before-requires c κs =
-    let entry = c .before .before .before .before .before .before .before .before in
-    let good = entry .pre .1 .1 in
-    let ready = entry .pre .1 .2 in
-    let r = entry .args .put .resource in
-    ((omega (arith, good .resource), omega arith, words-few (wordIn (entry .args .w .now)) ready r (good .resource)), words-short (wordIn (entry .args .w .now)) ready r (good .resource))
+    let p = c .before .before .before .before .before .before .before .pre in
+    let readable = subst Readable (sym (c .before .before .before .before .read-put .ensures)) (p .0 .2 .each _ (omega arith)) in
+    ((p .0 .0, p .0 .1, read-less _ _ _ (p .0 .2) (omega arith), readable, p .0 .3), (p .1, omega (arith, c .before .before .number-in .ensures (c .before .before .before .before .before .before .before .args .first), c .before .if1 .left)))
 
 rule-after-requires : tie.Need-rule-after-requires
 rule-after-requires c κs =
-    let entry = c .before .before .before .before .before .before .before .before .before .before in
-    let good = entry .pre .1 .1 in
-    let ready = entry .pre .1 .2 in
-    let A = entry .args in (
-      omega (arith, good .resource),
-      words-few (wordIn (entry .args .w .now)) ready (A .put .resource) (good .resource),
-      used-short (A .first) (A .put) (c .before .before .before .used-from .result) good (c .before .before .before .used-from .ensures),
-    )
-
-insert-requires : tie.Need-insert-requires
-insert-requires c κs =
-    let entry = c .before .before .before .before .before .before .before .before .before .before .before .before in
-    let good = entry .pre .1 .1 in
-    let ready = entry .pre .1 .2 in
-    ((omega (arith, good .resource), omega arith, omega arith), words-tidy (wordIn (entry .args .w .now)) ready (entry .args .put .resource) (good .resource))
-
-same-length : tie.Need-same-length
-same-length c = search needs
+    let p = c .before .before .before .before .before .before .before .before .pre in
+    let readable = subst Readable (sym (c .before .before .before .before .before .read-put .ensures)) (p .0 .2 .each _ (omega arith)) in
+    ((p .0 .0, p .0 .1, read-less _ _ _ (p .0 .2) (omega arith), readable, p .0 .3), (p .1, c .before .before .before .number-in .ensures (c .before .before .before .before .before .before .before .before .args .first)))
 
 returns-3 : tie.Need-returns-3
 returns-3 c =
-    let entry = c .before .before .before .before .before .before .before .before .before .before .before .before .before .before .before in
-    let A = entry .args in
-    let put-in = c .before .before .insert .ensures in
-    words-turn (A .first) (A .i) (A .put) (wordIn (A .w .now)) _ (c .before .before .before .before .before .before .before .before .used-from .result) (c .before .before .before .before .before .before .rule-before .result) (c .before .before .before .before .rule-after .result)
-    (entry .pre .1 .2) (entry .pre .1 .1) (omega arith) (omega arith) (c .before .before .before .before .before .before .before .before .used-from .ensures) (c .before .before .before .before .before .before .rule-before .ensures) (c .before .before .before .before .rule-after .ensures) (put-in .0) (put-in .1)
+    let A = c .before .before .before .before .before .before .before .before .before .args in
+    let ls = allWith (A .first) (linesIn (A .w .now)) (putsIn (A .puts .now) (A .k)) in
+    let q = putAt (A .puts .now) (A .k) in
+    let size = c .before .before .before .before .number-in .ensures (A .first) ∙ ap (λ (y : Put). length (lineFor ls y)) (c .before .before .before .before .before .before .read-put .ensures) in
+    let place = ap (λ (y : Put). y .place) (c .before .before .before .before .before .before .read-put .ensures) in
+    turn-goes (A .first) (A .k) q ls (c .before .rule-before .result) (c .rule-after .result) (omega (arith, size, place, c .before .before .before .if1 .left)) (omega (arith, size, c .before .before .if2 .left))
+    (c .before .rule-before .ensures ∙ ap (λ (y : Put). maybeFrom (ruleBefore (lineFor ls y) (y .place) (usedFrom (A .first) y))) (c .before .before .before .before .before .before .read-put .ensures))
+    (c .rule-after .ensures ∙ ap (λ (y : Put). maybeFrom (ruleAfter (lineFor ls y) (y .place) (usedFrom (A .first) y))) (c .before .before .before .before .before .before .read-put .ensures))
 
 pub place-one-spec : {M : Type 1} → statement M
 place-one-spec =
     tie.close
     (tie.spec
-    cast-at
-    mul-at
-    add-at
+    read-put-requires
     cast-place
-    mul-count
-    slice-read-count
-    cast-count
+    number-in-requires
+    cast-t11
     stopped-requires
     returns
+    cast-t13
     stopped-requires-2
     returns-2
-    used-from-requires
     rule-before-requires
     rule-after-requires
-    insert-requires
-    same-length
     returns-3)

@@ -1,4 +1,4 @@
--- `stay_lines` meets its contract. After k turns the lines before k are written (`turned`), and the others as they came (`lines-ahead`).
+-- `stay_lines` meets its contract. After k turns the lines before k are written (`turned`), and the others as they came.
 use Prim.Native.Nat.{_≤_, _-_}
 use mathlib.Core.Path.{_≡_, refl}
 use native.Mathlib.Omega.{arith}
@@ -6,12 +6,12 @@ use lib.ListN.{length}
 use Rattle.lines.proofs.LeavingLaws.{staysOf, stayed-all}
 use Rattle.boardwords.proofs.Put.{put-none}
 use Rattle.boardwords.specs.Words.{wordIn, linesRead}
-use Rattle.linewords.proofs.Lines.{turned, own-turn, lines-few, lines-done}
+use Rattle.linewords.proofs.Lines.{turned, lines-turn, lines-few, lines-done}
 use Rattle.linewords.proofs.thinning.stay_lines.Statement.{statement}
 use Rattle.linewords.proofs.thinning.stay_lines.Tie as tie
 
 abbrev Inv-loop : tie.InvT-loop
-Inv-loop w₀ f m k₀ w k = (k ≤ 16) × (w ≡ turned (staysOf f m) w₀ w₀ k) × (length w ≡ length w₀)
+Inv-loop w₀ f m k₀ w k = (k ≤ 16) × (w ≡ turned (staysOf f m) w₀ k) × (length w ≡ length w₀)
 
 abbrev μ-loop : tie.MeasureT-loop
 μ-loop w₀ f m k₀ w k = 16 - k
@@ -39,7 +39,7 @@ loop-less c = omega arith
 loop-again : tie.Need-loop-again Inv-loop μ-loop
 loop-again c = let L = c .before .before .before .before .before .loop in
     let A = c .before .before .before .before .before .before .before .args in
-    (omega arith, own-turn (staysOf (A .f) (A .m)) (A .w .now) (L .w) _ (L .k) (L .inv .1) (omega arith) (c .before .before .stay-line .ensures), omega arith)
+    (omega arith, lines-turn (staysOf (A .f) (A .m)) (A .w .now) (L .w) _ (L .k) (L .inv .1) (omega arith) (c .before .before .stay-line .ensures), omega arith)
 
 same-length : tie.Need-same-length Inv-loop μ-loop
 same-length c = omega arith
@@ -47,7 +47,7 @@ same-length c = omega arith
 returns : tie.Need-returns Inv-loop μ-loop
 returns c = let L = c .before .loop in
     let A = c .before .before .before .args in
-    lines-done (staysOf (A .f) (A .m)) (A .w .now) (A .w .now) (L .w) (L .k) _ (L .inv .1) (omega arith) (stayed-all (A .f) (A .m) (linesRead (wordIn (A .w .now))))
+    lines-done (staysOf (A .f) (A .m)) (A .w .now) (L .w) (L .k) _ (L .inv .1) (omega arith) (stayed-all (A .f) (A .m) (linesRead (wordIn (A .w .now))))
 
 pub stay-lines-spec : {M : Type 1} → statement M
 stay-lines-spec =

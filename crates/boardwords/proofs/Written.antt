@@ -1,0 +1,90 @@
+-- Words that were written, read again. Assumes nothing.
+--   put-at          the words at the place that a list was written to (Put has those outside of it)
+--   put-is          words that are so are those that were written
+--   put-again       a list written over another of its length
+--   lines-put       words that are others but for the lines are those others, with their own lines written over
+--   written-lines   lines that were written, read again
+use Prim.Native.Nat.{ℕ, zero, suc, _+_, _-_, _*_, _<_, _≤_}
+use mathlib.Core.Path.{_≡_, refl, sym, _∙_, ap}
+use mathlib.Core.List.{List, [], _∷_}
+use lib.ListN.{length, getD, set, length-set}
+use lib.Seq.{ext-getD, getD-set-same}
+use native.Mathlib.Decide.{decLt}
+use native.Mathlib.Omega.{arith}
+use Rattle.lists.specs.Loops.{build}
+use Rattle.lists.proofs.Build.{build-at}
+use Rattle.lines.specs.declared.Line.{Line}
+use Rattle.lines.specs.Held.{noLine}
+use Rattle.boardwords.specs.declared.Board.{Board}
+use Rattle.boardwords.specs.Words.{wordIn, linesRead, lineAt}
+use Rattle.boardwords.specs.Codec.{linesWords, put, wordsOf}
+use Rattle.boardwords.proofs.Put.{put-length, put-below, put-from, length-lines}
+use Rattle.boardwords.proofs.Boards.{same-lines}
+use Rattle.boardwords.proofs.Inverse.{lines-read}
+use Rattle.boardwords.proofs.Back.{lines-word, lines-back}
+
+pub put-at :
+    (w : List ℕ) (at : ℕ) (l : List ℕ) (k i : ℕ) → k ≡ at + i → i < length l → at + length l ≤ length w → getD (put w at l) k 0 ≡ getD l i 0
+unfolding put
+put-at w at [] k i e h room = absurd (omega arith)
+put-at w at (x ∷ l) k zero e h room =
+    let is : k ≡ at = omega arith in
+    rw is (put-below (set w at x) (suc at) l at (omega arith) ∙ getD-set-same w at x 0 (omega arith))
+put-at w at (x ∷ l) k (suc i) e h room =
+    put-at (set w at x) (suc at) l k i (omega arith) (omega arith) (omega (arith, length-set w at x))
+
+pub put-is :
+    (w x : List ℕ) (at : ℕ) (l : List ℕ) → length x ≡ length w → at + length l ≤ length w
+    → ((i : ℕ) → i < length l → getD x (at + i) 0 ≡ getD l i 0) → ((k : ℕ) → k < at → getD x k 0 ≡ getD w k 0)
+    → ((k : ℕ) → at + length l ≤ k → getD x k 0 ≡ getD w k 0) → x ≡ put w at l
+put-is w x at l e room inside below from =
+    ext-getD 0 x (put w at l) (e ∙ sym (put-length w at l)) (λ k h. go k (decLt k at) (decLt k (at + length l)))
+  where
+    go : (k : ℕ) → Dec (k < at) → Dec (k < at + length l) → getD x k 0 ≡ getD (put w at l) k 0
+    go k (yes lt) d = below k lt ∙ sym (put-below w at l k lt)
+    go k (no ge) (yes lt) =
+        let is : k ≡ at + (k - at) = omega arith in
+        ap (λ (j : ℕ). getD x j 0) is
+        ∙ inside (k - at) (omega arith)
+        ∙ sym (put-at w at l k (k - at) is (omega arith) room)
+    go k (no ge) (no past) = from k (omega arith) ∙ sym (put-from w at l k (omega arith))
+
+pub put-again : (w : List ℕ) (at : ℕ) (l m : List ℕ) → length l ≡ length m → at + length m ≤ length w → put (put w at l) at m ≡ put w at m
+put-again w at l m same room =
+    put-is w (put (put w at l) at m) at m (put-length (put w at l) at m ∙ put-length w at l) room
+    (λ i h. put-at (put w at l) at m (at + i) i refl h (omega (arith, put-length w at l)))
+    (λ k h. put-below (put w at l) at m k h ∙ put-below w at l k h)
+    (λ k h. put-from (put w at l) at m k h ∙ put-from w at l k (omega arith))
+
+pub lines-put :
+    (v w : List ℕ) → 1604 ≤ length v → length w ≡ length v → ((k : ℕ) → k < 52 → wordIn w k ≡ wordIn v k)
+    → ((k : ℕ) → 1604 ≤ k → wordIn w k ≡ wordIn v k) → ((k : ℕ) → k < 16 → getD (linesRead (wordIn w)) k noLine .count ≤ 32)
+    → w ≡ put v 52 (linesWords (linesRead (wordIn w)))
+lines-put v w room same below from few =
+    put-is v w 52 (linesWords (linesRead (wordIn w))) same (omega (arith, many))
+    (λ i h. sym (ap (λ (y : List ℕ). getD y i 0) read ∙ build-at (λ j. wordIn w (52 + j)) 1552 i 0 (omega (arith, many))))
+    below (λ k h. from k (omega (arith, many)))
+  where
+    many : length (linesWords (linesRead (wordIn w))) ≡ 1552
+    many = length-lines (linesRead (wordIn w))
+
+    small : (k : ℕ) → k < 16 → wordIn w (52 + 97 * k) ≤ 4294967295
+    small k h = let count = ap (λ (q : Line). q .count) (build-at (lineAt (wordIn w)) 16 k noLine h) in omega (arith, few k h, count)
+
+    read : linesWords (linesRead (wordIn w)) ≡ build (λ j. wordIn w (52 + j)) 1552
+    read = lines-read (wordIn w) small
+
+pub written-lines :
+    (u : List ℕ) (ls : List Line) → 1604 ≤ length u → length ls ≡ 16 → ((k : ℕ) → k < 16 → length (getD ls k noLine .uses) ≡ 32)
+    → ((k : ℕ) → k < 16 → getD ls k noLine .count ≤ 32) → linesRead (wordIn (put u 52 (linesWords ls))) ≡ ls
+written-lines u ls room many full few =
+    same-lines (wordIn (put u 52 (linesWords ls))) (wordIn (wordsOf b)) same ∙ lines-back b many full (λ k h. omega (arith, few k h))
+  where
+    b : Board
+    b = record { horizon = 0; lead = 0; clock = 0; jobs = record { count = 0; jobs = [] }; lines = ls; gaps = [] }
+
+    same : (k : ℕ) → 52 ≤ k → k < 1604 → wordIn (put u 52 (linesWords ls)) k ≡ wordIn (wordsOf b) k
+    same k l h =
+        let is : k ≡ 52 + (k - 52) = omega arith in
+        put-at u 52 (linesWords ls) k (k - 52) is (omega (arith, length-lines ls)) (omega (arith, length-lines ls))
+        ∙ sym (ap (wordIn (wordsOf b)) is ∙ lines-word b (k - 52) (omega arith))

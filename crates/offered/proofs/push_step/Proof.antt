@@ -1,0 +1,66 @@
+-- `push_step` meets its contract. The loop's invariant: behind the first `many` allocations stand the first j of step k.
+use Prim.Native.Nat.{_≤_, _-_, _+_}
+use mathlib.Core.Path.{_≡_}
+use mathlib.Core.List.{_++_}
+use native.Mathlib.Omega.{arith}
+use lib.ListN.{length}
+use Rattle.rulebook.specs.Reading.{putsOfStep}
+use Rattle.putwords.specs.Puts.{putsIn}
+use Rattle.offered.proofs.Laws.{step-none, step-more, step-done}
+use Rattle.offered.proofs.push_step.Statement.{statement}
+use Rattle.offered.proofs.push_step.Tie as tie
+
+abbrev Inv-loop : tie.InvT-loop
+Inv-loop plant offer k start at n puts₀ many j₀ puts j =
+    (j ≤ n) × (putsIn puts (many + j) ≡ putsIn puts₀ many ++ putsOfStep plant offer k 0 j) × (length puts ≡ length puts₀)
+
+abbrev μ-loop : tie.MeasureT-loop
+μ-loop plant offer k start at n puts₀ many j₀ puts j = n - j
+
+loop-holds : tie.Need-loop-holds Inv-loop μ-loop
+loop-holds c = (omega arith, step-none _ _ _ _ _, omega arith)
+
+add-push-put : tie.Need-add-push-put Inv-loop μ-loop
+add-push-put c = omega arith
+
+put-at-requires : tie.Need-put-at-requires Inv-loop μ-loop
+put-at-requires c κs = (c .before .before .before .before .before .before .pre .0, (omega arith, omega arith))
+
+push-put-requires : tie.Need-push-put-requires Inv-loop μ-loop
+push-put-requires c κs = omega arith
+
+add-j : tie.Need-add-j Inv-loop μ-loop
+add-j c = omega arith
+
+loop-less : tie.Need-loop-less Inv-loop μ-loop
+loop-less c = omega arith
+
+loop-again : tie.Need-loop-again Inv-loop μ-loop
+loop-again c =
+    let L = c .before .before .before .before .before .before .loop in (
+      omega arith,
+      step-more _ _ _ _ _ _ _ (L .inv .1) _ _ (c .before .before .before .put-at .ensures) (c .before .before .push-put .ensures),
+      omega arith,
+    )
+
+same-length : tie.Need-same-length Inv-loop μ-loop
+same-length c = omega arith
+
+returns : tie.Need-returns Inv-loop μ-loop
+returns c = step-done _ _ _ _ _ _ _ (c .before .loop .inv .1) _ (omega arith)
+
+pub push-step-spec : {M : Type 1} → statement M
+push-step-spec =
+    tie.close
+    (tie.spec
+    Inv-loop
+    μ-loop
+    loop-holds
+    add-push-put
+    put-at-requires
+    push-put-requires
+    add-j
+    loop-less
+    loop-again
+    same-length
+    returns)
