@@ -19,8 +19,9 @@ use show::TableRow;
 use timing::Case;
 use work::{Work, JOB_POINTS};
 
-const ROUNDS: usize = 1_000;
-const CHART_ROUNDS: usize = 400;
+/// Blocks of ten rounds each (timing.rs).
+const BLOCKS: usize = 100;
+const CHART_BLOCKS: usize = 40;
 
 const CALLS: [&str; 6] = ["soundness", "plan", "send", "clock", "retire", "report"];
 const JOBS: [usize; 3] = [1, 8, 16];
@@ -62,7 +63,7 @@ fn check_rows() -> Vec<TableRow> {
 fn board_cases(work: &Work) -> Vec<Case> {
     let of_all_sizes = |name| JOBS.map(|jobs| case(work, name, jobs));
     let mut cases: Vec<Case> = CALLS.into_iter().flat_map(of_all_sizes).collect();
-    timing::run(&mut cases, ROUNDS);
+    timing::run(&mut cases, BLOCKS);
     cases
 }
 
@@ -79,7 +80,7 @@ fn board_row(case: &Case, [ours, incremental, windows, scratch]: [f64; 4]) -> Ta
 
 fn chart_rows(work: &Work) -> Vec<(usize, f64, f64)> {
     let mut cases = CHART_JOBS.map(|jobs| case(work, "plan", jobs + 1));
-    timing::run(&mut cases, CHART_ROUNDS);
+    timing::run(&mut cases, CHART_BLOCKS);
     let rows = CHART_JOBS.iter().zip(&cases).map(|(jobs, case)| {
         let [ours, _, _, scratch] = case.later_call();
         (jobs * JOB_POINTS, ours, scratch)

@@ -3,8 +3,9 @@
 //! those behind it. A form's time is the median of its turns.
 //!
 //! What a first call costs depends on what went before it. The forms in Rust share the reading of plant
-//! and offer: where one follows another on the same call, it finds that code at hand. So a form takes its
-//! turns of all calls before the next form does, and the same other work comes before every turn.
+//! and offer: where one follows another, it finds that code at hand, and ours finds nothing. A controller
+//! has one form only. So a form makes ten rounds of all calls before the next form does, another form
+//! begins each time, and the same other work comes before every turn.
 
 use crate::forms::{Call, Form, Incremental};
 use crate::ours::Ours;
@@ -18,6 +19,9 @@ use std::time::Instant;
 /// the machine seldom falls into a turn.
 const CALLS_A_TURN: usize = 4;
 const FORMS: usize = 4;
+/// The rounds of all cases that a form makes before the next form does. Only the first of them comes behind
+/// another form: the median hardly notices it.
+const ROUNDS_A_BLOCK: usize = 10;
 
 /// The bytes read before a turn: more than the nearer caches hold. The boards of the turn are copied behind
 /// it, so that they are at hand; code, stack and arguments are not.
@@ -175,14 +179,16 @@ impl Case {
     }
 }
 
-/// Lets every form take its turns of all cases, so many rounds.
-pub fn run(cases: &mut [Case], rounds: usize) {
+/// Lets every form make so many blocks of rounds.
+pub fn run(cases: &mut [Case], blocks: usize) {
     let other = OtherWork::new();
-    for _ in 0..rounds {
-        for form in 0..FORMS {
-            for case in &mut *cases {
-                other.run();
-                case.take_turn(form);
+    for block in 0..blocks {
+        for form in (0..FORMS).map(|place| (block + place) % FORMS) {
+            for _ in 0..ROUNDS_A_BLOCK {
+                for case in &mut *cases {
+                    other.run();
+                    case.take_turn(form);
+                }
             }
         }
     }
