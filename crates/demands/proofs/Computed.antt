@@ -14,7 +14,7 @@ use Rattle.demands.specs.Model as Model
 use Rattle.demands.specs.Tidy as Tidy
 use Rattle.demands.specs.Cases.{Case}
 use Rattle.lists.specs.Loops.{allBelow}
-use Rattle.demands.specs.Shown.{isAccepted, readable, sameCells, sameBoards, shown, allShown}
+use Rattle.demands.specs.Shown.{isAccepted, kindOf, sameRuling, sameRulings, readable, sameCells, sameBoards, shown, allShown}
 use Rattle.demands.specs.ProvingTable.{plant, jobJ, table, furtherTable}
 use Rattle.demands.proofs.Computing.{computing}
 
@@ -37,7 +37,7 @@ AllCompute [] = Unit {0}
 AllCompute (c ∷ cs) = Computes c × AllCompute cs
 
 unfoldable pub shownOpen : Unit {0}
-unfolding isAccepted readable sameCells allBelow sameBoards shown allShown
+unfolding isAccepted kindOf sameRuling sameRulings readable sameCells allBelow sameBoards shown allShown
 shownOpen = tt
 
 -- each of document 01's fifteen rows computes, and each of our own

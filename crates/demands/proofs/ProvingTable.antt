@@ -2,17 +2,15 @@
 -- Its test is computed over the whole table on the abstract board (proofs/Computed), and one law turns it into what each case says: that the
 -- rule book has such a run, and that every run of it comes to the same. Assumes nothing.
 --   proving-table   document 01's cases;  further-table: cases of our own
-use mathlib.Core.Path.{subst, _∙_}
 use mathlib.Core.List.{List, [], _∷_}
 use borrow.Author.Tests.{leb-true}
-use Rattle.rulings.specs.declared.Ruling.{Ruling}
 use Rattle.stn.specs.Table.{bias}
-use Rattle.rulebook.specs.Book.{Runs, fresh}
+use Rattle.rulebook.specs.Book.{Book}
 use Rattle.demands.specs.Model as Model
 use Rattle.demands.specs.Tidy as Tidy
-use Rattle.demands.specs.Cases.{Case, Comes, AllCome}
+use Rattle.demands.specs.Cases.{Case, AllMeet, Comes, AllCome}
 use Rattle.demands.specs.ProvingTable.{table, furtherTable}
-use Rattle.demands.proofs.Tidy.{fresh-exists, fresh-keeps}
+use Rattle.demands.proofs.Tidy.{fresh-runs}
 use Rattle.demands.proofs.Shown.{all-meet}
 use Rattle.demands.proofs.Computed.{Computes, AllCompute, computed, further-computed}
 
@@ -20,13 +18,8 @@ comes : (c : Case) → Computes c → Comes c
 comes c e =
     let H = c .horizon in
     let D = c .lead in
-    let small = leb-true H bias (e .0) in
-    let some = fresh-exists H D small (c .calls) in (
-      (some .0, subst (λ (rs : List Ruling). Runs (fresh H D) (c .calls) rs (some .0)) (e .1) (some .1)),
-      λ rs k run.
-          let m = fresh-keeps H D small (c .calls) rs k run in
-          (m .0 ∙ e .1, all-meet (Tidy.runs (Model.fresh H D) (c .calls)) k (m .1) (c .expects) (e .2)),
-    )
+    fresh-runs H D (leb-true H bias (e .0)) (c .calls) (c .rulings) (e .1) (λ (k : Book). AllMeet k (c .expects))
+    (λ k m. all-meet (Tidy.runs (Model.fresh H D) (c .calls)) k m (c .expects) (e .2))
 
 all-come : (cs : List Case) → AllCompute cs → AllCome cs
 all-come [] e = tt

@@ -1,16 +1,20 @@
 -- Where the abstract board shows what a case of the proving table expects, every book beside it meets it. Assumes nothing.
 --   readable-right   the fact check is the forward definition, where both apply
+--   ofKind           a ruling by its kind, number and value;  of-kind: each ruling is the one of its own
+--   same-rulings     lists of rulings that pass the test are equal;  same-ruling: two rulings
 --   shown-meets      one expectation;  all-meet: each of a list
-use mathlib.Core.Path.{_≡_, refl, sym, subst}
+use mathlib.Core.Path.{_≡_, refl, ap, ap₂, sym, subst, _∙_}
 use mathlib.Core.Logic.{_↔_}
 use mathlib.Core.Bool.{true, true≢false, not}
 use mathlib.Core.List.{List, [], _∷_}
-use Prim.Native.Nat.{ℕ, _<_}
+use Prim.Native.Nat.{ℕ, zero, suc, _<_}
 use lib.Dec.{eqb, ltb, leb}
 use borrow.Author.Tests.{eqb-true, ltb-true, leb-true, not-true}
 use Rattle.masks.specs.Mask.{share}
+use Rattle.rulings.specs.declared.Cause.the-variants.{Plain, Action, Step, Fact, Allocation}
 use Rattle.rulings.specs.declared.Ruling.{Ruling}
 use Rattle.rulings.specs.declared.Ruling.the-variants.{Accepted, Refused}
+use Rattle.rulings.specs.Answer.{numberOf, valueOf}
 use Rattle.plant.specs.Plant.{plantRuling}
 use Rattle.offer.specs.Offer.{knownOf, goalOf, chainOf, offerRuling, factCheck}
 use Rattle.offer.proofs.Right.{fact-check-right}
@@ -24,12 +28,12 @@ use Rattle.demands.specs.Model.{Board, book}
 use Rattle.demands.specs.Model as Model
 use Rattle.demands.specs.Beside.{Sim}
 use Rattle.demands.specs.Tidy as Tidy
-use Rattle.demands.specs.Cases.{Expect, earliest, latest, runs, fails, same, Meets, AllMeet, SameTimetables}
-use Rattle.demands.specs.Shown.{isAccepted, readable, sameCells, sameBoards, shown, allShown}
+use Rattle.demands.specs.Cases.{Expect, earliest, latest, runs, fails, same, Meets, AllMeet, SameTimetables, EqualTables}
+use Rattle.demands.specs.Shown.{isAccepted, kindOf, sameRuling, sameRulings, readable, sameCells, sameBoards, shown, allShown}
 use Rattle.demands.proofs.Values.{least-at, greatest-at}
 use Rattle.demands.proofs.Compare.{compare}
 use Rattle.demands.proofs.Tries.{turned}
-use Rattle.demands.proofs.Tidy.{fresh-keeps}
+use Rattle.demands.proofs.Tidy.{fresh-runs}
 
 -- ---- what the tests mean
 
@@ -41,6 +45,42 @@ accepted-is (Refused c) e = absurd (true≢false (sym e))
 refused-is : (r : Ruling) → not (isAccepted r) ≡ true → r ≡ Accepted → ⊥
 unfolding isAccepted
 refused-is r e p = true≢false (sym (rw p at e))
+
+-- a ruling by its kind, number and value: so rulings with the same three are equal
+ofKind : ℕ → ℕ → ℕ → Ruling
+ofKind zero n v = Accepted
+ofKind (suc zero) n v = Refused (Plain n)
+ofKind (suc (suc zero)) n v = Refused (Action n v)
+ofKind (suc (suc (suc zero))) n v = Refused (Step n v)
+ofKind (suc (suc (suc (suc zero)))) n v = Refused (Fact n v)
+ofKind (suc (suc (suc (suc (suc k))))) n v = Refused (Allocation n v)
+
+of-kind : (r : Ruling) → ofKind (kindOf r) (numberOf r) (valueOf r) ≡ r
+unfolding kindOf ofKind
+of-kind Accepted = refl
+of-kind (Refused (Plain n)) = refl
+of-kind (Refused (Action n v)) = refl
+of-kind (Refused (Step n v)) = refl
+of-kind (Refused (Fact n v)) = refl
+of-kind (Refused (Allocation n v)) = refl
+
+same-ruling : (r q : Ruling) → sameRuling r q ≡ true → r ≡ q
+unfolding sameRuling
+same-ruling r q e =
+    let one = both-true (eqb (kindOf r) (kindOf q)) _ e in
+    let two = both-true (eqb (numberOf r) (numberOf q)) (eqb (valueOf r) (valueOf q)) (one .1) in
+    sym (of-kind r)
+    ∙ (ap (λ (k : ℕ). ofKind k (numberOf r) (valueOf r)) (eqb-true (kindOf r) (kindOf q) (one .0))
+    ∙ (ap₂ (ofKind (kindOf q)) (eqb-true (numberOf r) (numberOf q) (two .0)) (eqb-true (valueOf r) (valueOf q) (two .1)) ∙ of-kind q))
+
+same-rulings : (rs qs : List Ruling) → sameRulings rs qs ≡ true → rs ≡ qs
+unfolding sameRulings
+same-rulings [] [] e = refl
+same-rulings [] (q ∷ qs) e = absurd (true≢false (sym e))
+same-rulings (r ∷ rs) [] e = absurd (true≢false (sym e))
+same-rulings (r ∷ rs) (q ∷ qs) e =
+    let p = both-true (sameRuling r q) (sameRulings rs qs) e in
+    ap₂ _∷_ (same-ruling r q (p .0)) (same-rulings rs qs (p .1))
 
 same-cells : (c d : Table) (n i j : ℕ) → sameCells c d n ≡ true → i < n → j < n → c i j ≡ d i j
 unfolding sameCells
@@ -62,14 +102,17 @@ module _ (b : Board) (k : Book) (m : Sim b k) where
   of-parts : (P : Book → Type 0) → P (book (b .state) (k .rules)) → P k
   of-parts P h = subst P (sym (turned m)) h
 
-  same-meets : (other : Board) (next : Book) → Sim other next → sameBoards b other ≡ true → SameTimetables k next
+  same-meets : (other : Board) (next : Book) → Sim other next → sameBoards b other ≡ true → EqualTables k next
   unfolding sameBoards
   same-meets other next n e =
       let p = both-true (eqb (Plain.liveCount (b .state)) (Plain.liveCount (other .state))) _ e in
       let agree : Agree (Plain.liveCount (b .state)) (b .table) (other .table) =
       λ i j hi hj. same-cells (b .table) (other .table) (Plain.liveCount (b .state)) i j (p .1) hi hj in
-      let h = compare (m .holds) (n .holds) (eqb-true _ _ (p .0)) .0 agree in
-      of-parts (λ (x : Book). SameTimetables x next) (subst (SameTimetables (book (b .state) (k .rules))) (sym (turned n)) h)
+      let count = eqb-true (Plain.liveCount (b .state)) (Plain.liveCount (other .state)) (p .0) in
+      let h = compare (m .holds) (n .holds) count .0 agree in (
+        ap Plain.liveCount (m .state) ∙ (count ∙ sym (ap Plain.liveCount (n .state))),
+        of-parts (λ (x : Book). SameTimetables x next) (subst (SameTimetables (book (b .state) (k .rules))) (sym (turned n)) h),
+      )
 
   pub shown-meets : (x : Expect) → shown b x ≡ true → Meets k x
   unfolding shown
@@ -85,9 +128,12 @@ module _ (b : Board) (k : Book) (m : Sim b k) where
   shown-meets (fails p o) e =
       let q = both-true (readable p o) _ e in
       λ run. refused-is (factCheck p o) (q .1) (readable-right p o (q .0) .1 run)
-  shown-meets (same H D cs) e =
-      let q = both-true (leb H bias) _ e in
-      λ rs other run. same-meets (Tidy.runs (Model.fresh H D) cs) other (fresh-keeps H D (leb-true _ _ (q .0)) cs rs other run .1) (q .1)
+  shown-meets (same H D cs rs) e =
+      let end = Tidy.runs (Model.fresh H D) cs in
+      let ruled = Tidy.rules (Model.fresh H D) cs in
+      let p = both-true (leb H bias) _ e in
+      let q = both-true (sameRulings ruled rs) (sameBoards b end) (p .1) in
+      fresh-runs H D (leb-true _ _ (p .0)) cs rs (same-rulings ruled rs (q .0)) (EqualTables k) (λ other n. same-meets end other n (q .1))
 
   pub all-meet : (xs : List Expect) → allShown b xs ≡ true → AllMeet k xs
   unfolding allShown

@@ -2,8 +2,9 @@
 --   holds-agree    what holds of a table holds of every table with the same cells of live points
 --   tidy-agree     a tidied table has the same cells
 --   runs-keep      every run of the rule book has the rulings of the tidy run, and is beside its board
---   runs-exist     there is a run with these rulings;  fresh-exists: from the fresh book
-use mathlib.Core.Path.{_≡_, refl, ap, ap₂, sym, _∙_}
+--   runs-exist     there is a run with these rulings;  fresh-exists, fresh-keeps: from the fresh book
+--   fresh-runs     so the rule book runs to P (RunsTo), where the tidy run has these rulings and P holds of every book beside its board
+use mathlib.Core.Path.{_≡_, refl, ap, ap₂, sym, subst, _∙_}
 use mathlib.Core.List.{List, [], _∷_}
 use Prim.Native.Nat.{ℕ, _≤_, _<_}
 use native.Mathlib.Omega.{arith}
@@ -21,6 +22,7 @@ use Rattle.demands.specs.Model.{Board, step}
 use Rattle.demands.specs.Model as Model
 use Rattle.demands.specs.Beside.{Holds, Sim}
 use Rattle.demands.specs.Tidy.{tidy, tidied, runs, rules}
+use Rattle.demands.specs.Cases.{RunsTo}
 use Rattle.demands.proofs.Jobs.{still-jobs}
 use Rattle.demands.proofs.Tries.{live-positive}
 use Rattle.demands.proofs.Step.{sim-keeps, sim-exists, fresh-sim}
@@ -88,3 +90,12 @@ pub fresh-keeps :
     (H D : ℕ) → H ≤ bias → (cs : List Call) (rs : List Ruling) (k : Book) → Runs (Rulebook.fresh H D) cs rs k
     → (rs ≡ rules (Model.fresh H D) cs) × Sim (runs (Model.fresh H D) cs) k
 fresh-keeps H D le cs rs k p = runs-keep (fresh-sim H D le) cs rs k p
+
+pub fresh-runs :
+    (H D : ℕ) → H ≤ bias → (cs : List Call) (rs : List Ruling) → rules (Model.fresh H D) cs ≡ rs → (P : Book → Type 0)
+    → ((k : Book) → Sim (runs (Model.fresh H D) cs) k → P k) → RunsTo H D cs rs P
+fresh-runs H D le cs rs e P h =
+    let some = fresh-exists H D le cs in (
+      (some .0, subst (λ (qs : List Ruling). Runs (Rulebook.fresh H D) cs qs (some .0)) e (some .1)),
+      λ qs k run. let m = fresh-keeps H D le cs qs k run in (m .0 ∙ e, h k (m .1)),
+    )

@@ -1,9 +1,12 @@
 -- What a case of the proving table says: a board's settings, calls, their rulings, and what else must come of it.
---   Expect        one thing that must hold at the end
---   Meets k x     it holds of the book k;  AllMeet: each of a list.  SameTimetables k j: the same timetables are possible on both books
---   Case          a row of the table
---   Comes c       the case comes true: the rule book has a run with these rulings, and whatever run is taken has them and meets the rest;
---                 AllCome: each of a list
+--   Expect               one thing that must hold at the end
+--   SameTimetables k j   the same timetables are possible on both books
+--   EqualTables k j      the gap tables of both books are equal: as many live points, and the same timetables
+--   RunsTo H D cs rs P   from the fresh book the calls cs have the rulings rs and come to a book with P: the rule book has a run with these
+--                        rulings, and whatever run is taken has them and ends in such a book
+--   Meets k x            what x expects holds of the book k;  AllMeet: each of a list
+--   Case                 a row of the table
+--   Comes c              the case comes true: its calls have its rulings and come to a book that meets what it expects;  AllCome: each of a list
 use mathlib.Core.Path.{_≡_}
 use mathlib.Core.Logic.{_↔_}
 use mathlib.Core.List.{List, [], _∷_}
@@ -11,6 +14,7 @@ use Prim.Native.Nat.{ℕ}
 use Rattle.rulings.specs.declared.Ruling.{Ruling}
 use Rattle.facts.specs.Forward.{AllRun}
 use Rattle.offer.specs.Offer.{knownOf, goalOf, chainOf}
+use Rattle.plain.specs.Plain.{liveCount}
 use Rattle.plain.specs.Rules.{Times}
 use Rattle.rulebook.specs.Book.{Book, Call, Possible, Least, Greatest, Runs, fresh}
 
@@ -21,18 +25,28 @@ pub data Expect : Type 0 where
   -- by the forward definition of facts the offer's chain reaches its goal from every full state that fits, on this plant; or not
   runs : List ℕ → List ℕ → Expect
   fails : List ℕ → List ℕ → Expect
-  -- the same timetables are possible as after these calls on a board with this horizon and lead
-  same : ℕ → ℕ → List Call → Expect
+  -- on a board with this horizon and lead these calls have these rulings, and come to an equal table
+  same : ℕ → ℕ → List Call → List Ruling → Expect
 
 abbrev pub SameTimetables : Book → Book → Type 0
 SameTimetables k other = (u : Times) → Possible k u ↔ Possible other u
+
+-- An entry is the largest time of j minus time of i over the possible timetables, and there is one for each two live points: so the tables are
+-- equal where the live points are as many and the timetables the same
+abbrev pub EqualTables : Book → Book → Type 0
+EqualTables k other = (liveCount (k .state) ≡ liveCount (other .state)) × SameTimetables k other
+
+abbrev pub RunsTo : ℕ → ℕ → List Call → List Ruling → (Book → Type 0) → Type 0
+RunsTo H D cs rs P =
+    ((k : Book) × Runs (fresh H D) cs rs k)
+    × ((qs : List Ruling) (k : Book) → Runs (fresh H D) cs qs k → (qs ≡ rs) × P k)
 
 abbrev pub Meets : Book → Expect → Type 0
 Meets k (earliest x v) = Least k x v
 Meets k (latest x v) = Greatest k x v
 Meets k (runs p o) = AllRun (knownOf o) (chainOf p o) (goalOf o)
 Meets k (fails p o) = ¬ (AllRun (knownOf o) (chainOf p o) (goalOf o))
-Meets k (same H D cs) = (rs : List Ruling) (other : Book) → Runs (fresh H D) cs rs other → SameTimetables k other
+Meets k (same H D cs rs) = RunsTo H D cs rs (EqualTables k)
 
 abbrev pub AllMeet : Book → List Expect → Type 0
 AllMeet k [] = Unit {0}
@@ -46,9 +60,7 @@ pub record Case : Type 0 where
   pub expects : List Expect
 
 abbrev pub Comes : Case → Type 0
-Comes c =
-    ((k : Book) × Runs (fresh (c .horizon) (c .lead)) (c .calls) (c .rulings) k)
-    × ((rs : List Ruling) (k : Book) → Runs (fresh (c .horizon) (c .lead)) (c .calls) rs k → (rs ≡ c .rulings) × AllMeet k (c .expects))
+Comes c = RunsTo (c .horizon) (c .lead) (c .calls) (c .rulings) (λ (k : Book). AllMeet k (c .expects))
 
 abbrev pub AllCome : List Case → Type 0
 AllCome [] = Unit {0}

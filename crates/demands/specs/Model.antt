@@ -4,7 +4,7 @@
 --   refusal b c      refused with the cause c, and the board as it came
 --   settled b n s o  the state s with the table o, or refused with the number n where there is none
 --   planned, retired what becomes of a draft and of a leaving;  heard: of a reading
---   sending, clocking   what becomes of a send and of a clock call that pass 18 and 19
+--   sending, clocking   what becomes of a send and of a clock call that pass 18 and 19;  sendPoints: the points that a send sets
 --   step b c         the answer to a call
 --   fresh H D        the board at the start;  book s rs, board s c: by their parts
 use mathlib.Core.Bool.{true, false}

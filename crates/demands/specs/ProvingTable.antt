@@ -4,7 +4,7 @@
 --   jobJ b place  "Job J: fact 0 known true, goal fact 2 true, A0 A1", in batch b, with this place
 --   table         document 01's cases
 --   furtherTable  cases of our own, for what those do not show
--- Point 0 is the origin; the first job's points are 1, 2, 3, the second job's start is 4.
+-- Point 0 is the origin; where the first job is J, its points are 1, 2, 3, and the second job's start is 4.
 use mathlib.Core.List.{List, [], _∷_, _++_}
 use Prim.Native.Nat.{ℕ, _/_, _%_}
 use Rattle.rulings.specs.declared.Ruling.{Ruling}
@@ -103,7 +103,7 @@ table =
     -- m: J in batch 7, then A2 in batch 7 with fact 3 known and wanted: earliest 19, 20
     ∷ usual (plan plant (jobJ 7 0) ∷ plan plant (offerM 7) ∷ []) (Accepted ∷ Accepted ∷ []) (earliest 4 19 ∷ earliest 5 20 ∷ [])
     -- n: D = 5 at clock 0 and D = 0 at clock 5, then J: equal tables
-    ∷ usual (J ∷ []) (Accepted ∷ []) (same 1000 0 (clock 5 ∷ J ∷ []) ∷ [])
+    ∷ usual (J ∷ []) (Accepted ∷ []) (same 1000 0 (clock 5 ∷ J ∷ []) (Accepted ∷ Accepted ∷ []) ∷ [])
     ∷ []
 
 -- ---- cases of our own

@@ -1,7 +1,9 @@
 -- What a case of the proving table expects, as a test on the abstract board that computes. It is a device of the proof: the table's statement
 -- (Cases, ProvingTable) does not mention it, and proofs/Shown says that it means what the case says.
 --   readable p o    plant and offer are past refusals 1 to 4 and 7 to 9, and no fact is known both ways
---   isAccepted r    the ruling is accepted;  sameCells c d n: two tables have the same cells among the first n points
+--   isAccepted r    the ruling is accepted;  kindOf r: 0 for accepted, and for a refusal which kind of cause it has
+--   sameRuling      two rulings are the same, by kind, number and value;  sameRulings: two lists of them
+--   sameCells c d n two tables have the same cells among the first n points
 --   sameBoards a b  the same number of live points, and the same cells
 --   shown b x       the board b shows what x expects;  allShown: each of a list
 use mathlib.Core.Bool.{Bool, true, false, not, _&&_}
@@ -9,8 +11,10 @@ use mathlib.Core.List.{List, [], _∷_}
 use Prim.Native.Nat.{ℕ}
 use lib.Dec.{eqb, ltb, leb}
 use Rattle.masks.specs.Mask.{share}
+use Rattle.rulings.specs.declared.Cause.the-variants.{Plain, Action, Step, Fact, Allocation}
 use Rattle.rulings.specs.declared.Ruling.{Ruling}
 use Rattle.rulings.specs.declared.Ruling.the-variants.{Accepted, Refused}
+use Rattle.rulings.specs.Answer.{numberOf, valueOf}
 use Rattle.plant.specs.Plant.{plantRuling}
 use Rattle.offer.specs.Offer.{knownOf, offerRuling, factCheck}
 use Rattle.plain.specs.Plain
@@ -25,6 +29,23 @@ use Rattle.demands.specs.Cases.{Expect, earliest, latest, runs, fails, s
 unfoldable pub isAccepted : Ruling → Bool
 isAccepted Accepted = true
 isAccepted (Refused c) = false
+
+unfoldable pub kindOf : Ruling → ℕ
+kindOf Accepted = 0
+kindOf (Refused (Plain n)) = 1
+kindOf (Refused (Action n v)) = 2
+kindOf (Refused (Step n v)) = 3
+kindOf (Refused (Fact n v)) = 4
+kindOf (Refused (Allocation n v)) = 5
+
+unfoldable pub sameRuling : Ruling → Ruling → Bool
+sameRuling r q = eqb (kindOf r) (kindOf q) && (eqb (numberOf r) (numberOf q) && eqb (valueOf r) (valueOf q))
+
+unfoldable pub sameRulings : List Ruling → List Ruling → Bool
+sameRulings [] [] = true
+sameRulings [] (q ∷ qs) = false
+sameRulings (r ∷ rs) [] = false
+sameRulings (r ∷ rs) (q ∷ qs) = sameRuling r q && sameRulings rs qs
 
 unfoldable pub readable : List ℕ → List ℕ → Bool
 readable p o = isAccepted (plantRuling p) && (isAccepted (offerRuling p o) && not (share (knownOf o .pos) (knownOf o .neg)))
@@ -43,7 +64,7 @@ shown b (earliest x v) = ltb x (Plain.liveCount (b .state)) && eqb (Gaps.earlies
 shown b (latest x v) = ltb x (Plain.liveCount (b .state)) && eqb (Gaps.latest (b .table) x) v
 shown b (runs p o) = readable p o && isAccepted (factCheck p o)
 shown b (fails p o) = readable p o && not (isAccepted (factCheck p o))
-shown b (same H D cs) = leb H bias && sameBoards b (Tidy.runs (Model.fresh H D) cs)
+shown b (same H D cs rs) = leb H bias && (sameRulings (Tidy.rules (Model.fresh H D) cs) rs && sameBoards b (Tidy.runs (Model.fresh H D) cs))
 
 unfoldable pub allShown : Board → List Expect → Bool
 allShown b [] = true

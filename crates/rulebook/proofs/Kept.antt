@@ -1,43 +1,103 @@
 -- The rule book "never forgets a rule": whatever is called, the rules of the book before are still there, their points renamed where a job
--- retired, and new ones only come behind them. Assumes nothing.
+-- retired, and new ones only come behind them. No two points ever get one name, and the origin keeps its own. Assumes nothing.
 --   Carries b k        the rules of b are still in k
+--   back, back-left    the point that got this name when m points left: it undoes `left`
+--   left-apart, left-origin   so `left` gives no two points one name; the origin keeps its own
 --   step-carries       every call;  runs-carry: every list of calls
 use mathlib.Core.Path.{_≡_, refl, sym, ap, _∙_}
 use mathlib.Core.Logic.{_⊎_, ⊎-elim}
-use mathlib.Core.Bool.{Bool, true, false}
-use mathlib.Core.List.{List, [], _∷_, _++_, map, map-id, map-map, map-append, append-assoc}
-use Prim.Native.Nat.{ℕ}
+use mathlib.Core.Bool.{Bool, true, false, cond}
+use mathlib.Core.List.{List, [], _∷_, _++_, map, map-id, map-map, map-append, append-assoc, append-nil}
+use Prim.Native.Nat.{ℕ, zero, suc, _+_, _-_, _≤_, _<_}
+use native.Mathlib.Decide.{decLt}
+use native.Mathlib.Omega.{arith}
+use lib.Dec.{ltb}
+use borrow.Author.Tests.{lt-ltb, le-ltb, le-leb}
 use Rattle.rulings.specs.declared.Ruling.{Ruling}
 use Rattle.rulings.specs.declared.Cause.{Cause}
 use Rattle.plain.specs.declared.Rule.{Rule}
 use Rattle.plain.specs.Plain
 use Rattle.plain.specs.Rules.{RuleOn, named, renamed}
 use Rattle.rulebook.specs.Reading.{Reading, bad, good, readingOf}
-use Rattle.rulebook.specs.Book.{Book, Point, live, Call, plan, send, clock, retire, made, left, Refuses, Settles, Guarded, Plans, Reads, Sends, Retires, Step, Runs}
+use Rattle.rulebook.specs.Book.{Book, Point, live, gone, Call, plan, send, clock, retire, made, left, Refuses, Settles, Guarded, Plans, Reads, Sends, Retires, Step, Runs}
 
 pub record Carries (b k : Book) : Type 0 where
   -- what each point is called now
   pub names : Point → Point
+  -- no two points get one name, and the origin keeps its own
+  pub apart : (x y : Point) → names x ≡ names y → x ≡ y
+  pub origin : names (live 0) ≡ live 0
   -- the rules that came
   pub news : List (RuleOn Point)
   pub kept : k .rules ≡ map (renamed names) (b .rules) ++ news
 
-end-empty : {A : Type 0} (l : List A) → l ++ [] ≡ l
-end-empty [] = refl
-end-empty (x ∷ l) = ap (λ (r : List _). x ∷ r) (end-empty l)
+-- ---- where m points left
+
+-- those that left last are the first m of the retired
+unfoldable back : ℕ → Point → Point
+back m (gone k) = cond (ltb k m) (live (suc k)) (gone (k - m))
+back m (live zero) = live 0
+back m (live (suc k)) = live (suc (k + m))
+
+-- one that was retired already
+back-gone : (m k : ℕ) → back m (left m (gone k)) ≡ gone k
+unfolding back left
+back-gone m k = rw (le-ltb (k + m) m (omega arith)) (ap gone (omega arith))
+
+left-origin : (m : ℕ) → left m (live 0) ≡ live 0
+unfolding left Plain.goes Plain.over
+left-origin m = refl
+
+-- one of the m that leave
+left-leaves : (m k : ℕ) → k < m → left m (live (suc k)) ≡ gone k
+unfolding left Plain.goes
+left-leaves m k h = rw (le-leb 1 (suc k) (omega arith), lt-ltb (suc k) (1 + m) (omega arith)) (ap gone (omega arith))
+
+-- one behind them
+left-stays : (m k : ℕ) → m ≤ k → left m (live (suc k)) ≡ live (suc (k - m))
+unfolding left Plain.goes Plain.over
+left-stays m k h =
+    rw (le-leb 1 (suc k) (omega arith), le-ltb (suc k) (1 + m) (omega arith), le-ltb (suc k) 1 (omega arith)) (ap live (omega arith))
+
+back-live : (m k : ℕ) → back m (left m (live k)) ≡ live k
+unfolding back
+back-live m zero = ap (back m) (left-origin m)
+back-live m (suc k) = go (decLt k m)
+  where
+    go : Dec (k < m) → back m (left m (live (suc k))) ≡ live (suc k)
+    go (yes lt) = ap (back m) (left-leaves m k lt) ∙ rw (lt-ltb k m lt)
+    go (no ge) = ap (back m) (left-stays m k (omega arith)) ∙ ap live (omega arith)
+
+back-left : (m : ℕ) (x : Point) → back m (left m x) ≡ x
+back-left m (live k) = back-live m k
+back-left m (gone k) = back-gone m k
+
+left-apart : (m : ℕ) (x y : Point) → left m x ≡ left m y → x ≡ y
+left-apart m x y e = sym (back-left m x) ∙ ap (back m) e ∙ back-left m y
+
+-- ---- the steps
 
 same-names : (rs : List (RuleOn Point)) → map (renamed (λ x. x)) rs ≡ rs
 unfolding renamed
 same-names rs = map-id rs
 
 unchanged : (b k : Book) → k ≡ b → Carries b k
-unchanged b k e = record { names = λ x. x; news = []; kept = ap (λ (z : Book). z .rules) e ∙ sym (end-empty _ ∙ same-names (b .rules)) }
+unchanged b k e =
+    record {
+      names = λ x. x;
+      apart = λ x y h. h;
+      origin = refl;
+      news = [];
+      kept = ap (λ (z : Book). z .rules) e ∙ sym (append-nil _ ∙ same-names (b .rules));
+    }
 
 more : (s : Plain.State) (b k : Book) (rs : List Rule) → k ≡ made s b rs → Carries b k
 unfolding made
 more s b k rs e =
     record {
       names = λ x. x;
+      apart = λ x y h. h;
+      origin = refl;
       news = map (named live) rs;
       kept = ap (λ (z : Book). z .rules) e ∙ sym (ap (λ (l : List (RuleOn Point)). l ++ map (named live) rs) (same-names (b .rules)));
     }
@@ -65,13 +125,13 @@ unfolding Guarded
 guarded true n b k R r h p = h p
 guarded false n b k R r h p = refuses b k _ r p
 
+retired : (m : ℕ) (b k : Book) → k .rules ≡ map (renamed (left m)) (b .rules) → Carries b k
+retired m b k e = record { names = left m; apart = left-apart m; origin = left-origin m; news = []; kept = e ∙ sym (append-nil _) }
+
 retires : (b k : Book) (x : Plain.Leaving) (r : Ruling) → Retires b x r k → Carries b k
 unfolding Retires
 retires b k Plain.Leaving.stop r p = refuses b k _ r p
-retires b k (Plain.Leaving.go m rs s) r p =
-    ⊎-elim
-    (λ a. record { names = left m; news = []; kept = ap (λ (z : Book). z .rules) (a .2) ∙ sym (end-empty _) })
-    (λ f. refuses b k _ r (f .1)) p
+retires b k (Plain.Leaving.go m rs s) r p = ⊎-elim (λ a. retired m b k (ap (λ (z : Book). z .rules) (a .2))) (λ f. refuses b k _ r (f .1)) p
 
 pub step-carries : (b k : Book) (c : Call) (r : Ruling) → Step b c r k → Carries b k
 unfolding Step Sends
@@ -86,6 +146,8 @@ unfolding renamed
 carried b m k p q =
     record {
       names = λ x. q .names (p .names x);
+      apart = λ x y e. p .apart x y (q .apart (p .names x) (p .names y) e);
+      origin = ap (q .names) (p .origin) ∙ q .origin;
       news = map (renamed (q .names)) (p .news) ++ q .news;
       kept =
           q .kept

@@ -2,7 +2,7 @@
 -- board, and none of the answers." It "never forgets a rule", and "finds out what exists by the definition, with no table".
 --   Call               a call's arguments: raw bytes and numbers
 --   Point              a live point by its number, the origin 0; or a retired one
---   Book               the plain machine's state, and every rule made so far
+--   Book               the plain machine's state, and every rule made so far;  fresh H D: the first one;  made: with more rules
 --   Possible b u       the timetable u over the live points is possible, `completed` by numbers for the retired ones
 --   SomePossible b             some timetable is possible
 --   LeastTime Y x v    v is the least time of x over the timetables Y: attained, and never below;  GreatestTime: the greatest, never above

@@ -1,2 +1,2 @@
 // The rule book of document 01: definitions (specs/), and the law that it forgets no rule (proofs/). Nothing in it is run.
-// It may use the definitions of plant file, offer and plain machine; no table, and none of the board's code.
+// It may use words, rulings, plant, offer and plain, of each the definitions alone; no table, and none of the board's code.
