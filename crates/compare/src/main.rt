@@ -5,6 +5,7 @@ use boardtext::put_gap;
 use libc::STDOUT_FILENO;
 use session::Options;
 use session::State;
+use session::flush;
 use session::replay_argument;
 use tables::Compared;
 use tables::compare;
@@ -56,7 +57,7 @@ fn write_error(k: usize, error: &[u8], end: usize) {
     let mut out = [0u8; ROOM];
     let at = put_name(&mut out, k);
     let last = put(&mut out, at, &error[from..stop]);
-    write_line(&out, last);
+    flush(&out, last);
 }
 
 // Puts `! FILE: `, with the name of the kth argument's file.
@@ -73,12 +74,7 @@ fn put_name(out: &mut [u8], k: usize) -> usize {
 fn write_answer(answer: Compared) {
     let mut out = [0u8; ROOM];
     let end = put_answer(&mut out, answer);
-    write_line(&out, end);
-}
-
-fn write_line(out: &[u8], end: usize) {
-    let stop = least(end, out.len());
-    io::write_all(STDOUT_FILENO, &out[0..stop]);
+    flush(&out, end);
 }
 
 fn put_answer(out: &mut [u8], answer: Compared) -> usize {

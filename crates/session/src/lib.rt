@@ -225,8 +225,10 @@ fn drain(out: &mut [u8], waiting: usize) -> usize {
     0
 }
 
-// Writes the output that waits.
-pub fn flush(out: &[u8], waiting: usize) -> bool {
+// Writes the output that waits; where that fails, standard error says so.
+pub fn flush(out: &[u8], waiting: usize) {
     let end = least(waiting, out.len());
-    io::write_all(STDOUT_FILENO, &out[0..end])
+    if !io::write_all(STDOUT_FILENO, &out[0..end]) {
+        os::fail(b"the output could not be written: see that there is room for it");
+    }
 }
