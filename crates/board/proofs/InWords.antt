@@ -3,7 +3,7 @@
 --   horizon-is          its horizon is their first word
 --   points-asked, jobs-sized, closed-lent, few-after   what the code of the calls asks of jobs, table and lines
 --   jobs-kept, marks-kept, clocked-kept, fronted-kept   a changed table leaves the jobs as they were, and so what becomes of them
---   lines-kept          a changed table, another clock and other jobs leave the lines as they were
+--   lines-kept, length-fronted   a changed table, another clock and other jobs leave the lines and the number of words as they were
 --   assembled           with lines written too, the words are those of the board so made
 --   answered, accepted-words, unanswered   the words after an accepted call, and after a refused one
 use Prim.Native.Nat.{ℕ, suc, _<_, _≤_}

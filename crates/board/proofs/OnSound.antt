@@ -1,5 +1,4 @@
 -- What a sound board gives the code of its calls. Assumes nothing.
---   rules-back    the rules held in the array, read back
 --   sized         the jobs are as many as the walks of them ask
 --   lines-small   no line holds more than 32;  lined: and each use is short
 --   Fits n u      a use of one of the first n points, its offset and length in range
@@ -14,23 +13,18 @@ use mathlib.Core.List.{List, [], _∷_, map}
 use lib.ListN.{length, getD, List·getD-eq-default}
 use lib.Dec.{ltb}
 use borrow.Author.Tests.{ltb-true, ltb-false}
-use Rattle.plain.specs.declared.Rule.{Rule}
 use Rattle.plain.specs.declared.Use.{Use}
 use Rattle.plain.specs.Plain.{noUse, total}
 use Rattle.lines.specs.declared.Line.{Line}
-use Rattle.lines.specs.Held.{jobsOf, lineOf, linesOf, rulesOf, rulesFrom, noRule, noLine}
+use Rattle.lines.specs.Held.{jobsOf, lineOf, linesOf, noLine}
 use Rattle.lines.specs.Asked.{Sized, Short, AllShort, Lined}
 use Rattle.lines.proofs.Lists.{map-at}
-use Rattle.lines.proofs.Padded.{take-padded}
 use Rattle.stn.specs.Table.{Closed}
 use Rattle.gaps.specs.Cells.{tableOf}
 use Rattle.boardwords.specs.declared.Board.{Board}
 use Rattle.sound.specs.Sound.{pointsOf, SizedUse, Sound}
 use Rattle.lists.specs.All.{All}
 use Rattle.lists.proofs.All.{all-at, all-from, all-map}
-
-pub rules-back : (l : List Rule) → length l ≤ 82 → rulesOf (rulesFrom l) ≡ l
-rules-back l h = take-padded 82 noRule l h
 
 past-end : (l : List Line) (k : ℕ) → length l ≤ k → getD l k noLine ≡ noLine
 past-end [] k h = refl

@@ -63,7 +63,7 @@ unfoldable pub heard : Board → Reading → Ruled
 heard b (bad c) = refused b c
 heard b (good o) = decided b (Plain.drafted (stateOf b) o)
 
--- "1, 2, 3 and 4 .., then 6, .." The plant file is ruled on before the board is looked at, the offer after it
+-- "Each call makes the checks that concern it in this order": the plant file (1 to 4) before the board (6), the offer (7 to 17) after it
 unfoldable pub planned : Board → List ℕ → List ℕ → Ruled
 planned b p o = after (plantRuling p) b (cond (not (sound b)) (refusal b 6) (heard b (readingOf p o)))
 

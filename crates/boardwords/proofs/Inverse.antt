@@ -1,5 +1,5 @@
 -- Words that were read and are written again.
---   counted-is, counted-small, mark-is, marks-hold   counts that fit a word, marks of 0 and 1
+--   counted-is, counted-small, mark-is, mark-small, marks-hold   counts that fit a word, marks of 0 and 1
 --   uses-read, jobs-read, lines-read   the words of uses, of jobs, of lines, that were read
 --   words-back   the words of the board of a list of 5,829 words, each below 2^32 and the marks 0 or 1, are that list
 -- Words of a C caller are below 2^32 by their type. Of a mark that is neither 0 nor 1, `unmarked` (crates/sound) says that the board is not

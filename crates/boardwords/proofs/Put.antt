@@ -1,13 +1,13 @@
 -- Laws of writing over a list.
 --   put-length     the length stays
 --   put-append     two lists written one behind the other
---   put-three      three words stored one by one;  put-four: the first four
---   put-turn       a loop's turn: the words of element k behind those before it
---   put-cell       the same for a single word
+--   put-three      three words stored one by one;  put-four: the first four;  put-last, put-first: one of them by itself
+--   put-none, put-turn   a loop's start, and its turn: the words of element k behind those before it;  put-line-turn: of lines
+--   put-no-cell, put-cell   the same for a single word
 --   put-below, put-from   a word outside of what is written stays
 --   each-more      what a loop has shown of each element so far
 --   put-whole      a list that is written over as a whole;  put-front: its front part
---   length-frame, length-words   the words of a frame and of a board are 1,604 and 5,829
+--   length-line, length-jobs, length-lines, length-frame, length-words   how many words a line, all jobs, all lines, a frame and a board have
 --   put-frame      a frame's parts written one behind the other;  put-board: the cells behind them
 use Prim.Native.Nat.{ℕ, zero, suc, _+_, _*_, _<_, _≤_}
 use mathlib.Core.Path.{_≡_, refl, sym, _∙_, ap, subst}

@@ -1,7 +1,8 @@
 -- A board as its words (docs/FORMATS.md, "Words of a board"): what specs/Words reads, written.
 --   wordsOf b      the 5,829 words of a board: its frame, and its cells
 --   frameWords b   the first 1,604 of them: its numbers, its jobs, its lines
---   jobWords j     those of a job, of a use, of a line;  jobsWords, linesWords, cellsWords: of all of them
+--   jobWords j, useWords u, lineWords l   those of a job, of a use, of a line;  markOf: of a mark;  headWords b: of a board's numbers
+--   jobsWords, usesWords, linesWords, cellsWords   of all of them
 --   joined f n     f 0, .., f (n - 1), one behind the other
 --   counted n      a count as a word: a count that no word holds is written as the largest word (no sound board has either)
 --   put w at l     the list w with the elements of l written over it, from place `at` on

@@ -4,8 +4,9 @@
 -- Words are a function from a word's number, so that a part of the board is that part of any words.
 --   wordAt s k         word k of the bytes s
 --   wordIn l k         word k of the list l; 0 past its end
---   jobRead w at       the job, use, line whose first word is number `at`
---   jobAt w k          job k, line k, cell k; use k of the line whose uses begin at word `at`
+--   zeros              words that are all 0
+--   jobRead, useRead, lineRead w at   the job, use, line whose first word is number `at`
+--   jobAt, lineAt, cellAt w k   job k, line k, cell k;  useAt w at k: use k of the line whose uses begin at word `at`
 --   jobsRead w         all of them;  usesRead, linesRead, cellsRead;  heldJobs w: the jobs with their count
 --   isMarked c k m     of c jobs, job k is past the end or its mark m is 0 or 1;  allMarked w: every job is
 --   boardRead w        the board of these words

@@ -140,7 +140,7 @@ pub fn are_marked(s: &[u32]) -> bool
     ok
 }
 
-// No board has a horizon of 0: it stands for a mark that no board has either.
+// No sound board has a horizon of 0: it stands for a mark that no sound board has either.
 fn horizon(s: &[u32]) -> u32
     requires { ⌜ 1604 ≤ length (now s) ⌝ }
     ensures { λ r. ⌜ r ≡ cond (allMarked (wordIn (now (s .entry)))) (wordIn (now (s .entry)) 0) 0 ⌝ }

@@ -22,7 +22,7 @@ use Rattle.plain.specs.Plain.{total, notBefore, starts}
 use Rattle.lines.specs.Held.{jobsOf, jobsFrom, linesOf, linesFrom, rulesOf, rulesFrom}
 use Rattle.gaps.specs.Cells.{Usable}
 use Rattle.boardwords.specs.declared.Board.{Board}
-use Rattle.board.proofs.OnSound.{rules-back}
+use Rattle.lines.proofs.RuleLaws.{rules-back}
 use Rattle.board.specs.Boards.{stateOf}
 use Rattle.lists.specs.All.{All}
 use Rattle.sound.specs.Sound.{SizedJob, Sound, sound}
@@ -81,7 +81,7 @@ module _ (b : Board) (s : Sound b) where
         length-jobs = omega (arith, length-take (b .jobs .count) (b .jobs .jobs))
 
     pub rules-are : rulesOf rules ≡ starts (c + b .lead) 1 (jobsOf (b .jobs))
-    rules-are = ap rulesOf er ∙ rules-back _ (let f = few in omega (arith, f))
+    rules-are = rules-back _ _ er (let f = few in omega (arith, f))
 
     pub rules-few : rules .count ≤ 82
     rules-few = let e = ap (λ (x : Rules). x .count) er in let f = few in omega (arith, e, f)

@@ -22,7 +22,7 @@ use lines::push;
 use rulings::Cause;
 use rulings::Ruling;
 
-// Where refused, there are no rules.
+// Where refused, the rules are not looked at.
 pub struct Drafted {
     pub ruling: Ruling,
     pub rules: Rules,

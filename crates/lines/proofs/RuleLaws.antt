@@ -1,14 +1,15 @@
 -- Laws of the list of rules. Each function puts rules behind those that are there; the laws say what is held then, and that room is left.
+--   rules-back          a list laid into the array is read back;  held-count: how many rules are held
 --   Room-of             rules that hold a short list have room;  Room-less: and so for less
 --   added               after more rules: what is held, and the room that is left
 --   unchanged           no rule put behind
 --   pushed              one more rule stored;  first-pushed: the first one;  stored: one or none;  stored-two: two
 --   Growing, grows, grown   a loop that puts rules behind: what is held and what is to come are all that is wanted
---   before-none, before-at, after-none, after-at   (d): the rules with the neighbours of a place
+--   before-none, before-at, after-none, after-at   (d): the rules with the neighbours of a place;  before-few, after-few: at most one each
 --   durations-least, durations-most, durations-stored   (c): the rules of one step
---   durations-next      the rules of a first step, and then of the others
---   starts-next         clock: the rules of a first job, and then of the others
---   newest-*            (e): the search for the newest job of a batch, from the front
+--   durations-next      the rules of a first step, and then of the others;  durations-two: two for each step
+--   starts-next         clock: the rules of a first job, and then of the others;  startRule, starts-one: of one job
+--   newest-*            (e): the search for the newest job of a batch, from the front;  search-from, end-at, end-none, batch-*: what it comes to
 use Prim.Native.Nat.{ℕ, zero, suc, _+_, _-_, _≤_, _<_}
 use mathlib.Core.Path.{_≡_, refl, sym, _∙_, ap}
 use mathlib.Core.Bool.{Bool, true, false, cond}

@@ -1,10 +1,10 @@
 -- What the code asks of its arguments, so that no index is out of range and no sum wraps. Soundness and reading show it.
 --   Sized jobs       as many jobs and points as document 01 allows
---   Short u          a use's offset and length are in range, so its end fits a u32;  AllShort us: each use of a line
+--   Short u          a use's offset and length are not above their limits, so its end fits a u32;  AllShort us: each use of a line
 --   Lined lines      no line holds more than 32, and each use is Short
---   Ready lines      the same of lines that have 0 in every place not in use
+--   Ready lines      the same of 16 lines that have 0 in every place not in use (so that none holds more than 32)
 --   Room n rules     n more rules fit
---   Readable p       an allocation's numbers are in range
+--   Readable p       an allocation's numbers are not above their limits; its place may be any
 use Prim.Native.Nat.{ℕ, _+_, _≤_, _<_}
 use mathlib.Core.Path.{_≡_}
 use mathlib.Core.List.{List, []}
@@ -22,7 +22,7 @@ pub record Sized (jobs : Jobs) : Type 0 where
   pub count : jobs .count ≤ 16
   pub points : total (jobsOf jobs) ≤ 64
 
--- "offset (0 to 1,000,000), length (1 to 1,000,000)"
+-- offsets and lengths are at most 1,000,000
 pub record Short (u : Use) : Type 0 where
   pub offset : u .offset ≤ 1000000
   pub length : u .length ≤ 1000000

@@ -1,6 +1,6 @@
 -- Laws of uses that are moved to the front where they lie.
---   left        what stays of the first k uses;  left-few: no more than k
---   thin-none   the loop's start
+--   left        what stays of the first k uses
+--   thin-none   the loop's start;  thin-size: how many stay
 --   thin-more   its turn: use k is read, as it was at first, and what stays of it written behind what stays of those before it
 --   stay-put    a line whose uses were moved to the front, whose count was stored and whose other places were cleared
 use Prim.Native.Nat.{ℕ, _+_, _*_, _<_, _≤_}

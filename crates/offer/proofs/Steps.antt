@@ -1,7 +1,7 @@
 -- Laws of the steps of an offer, refusals 7 to 9. Assumes nothing.
 --   too-short, no-action, cut-off, step-ends   one step's reading, answer by answer
 --   Step            what holds of a step that was read
---   ruling-is, next-start   one step more
+--   first-start, ruling-is, next-start   where the first step starts; one step more
 --   steps-refused, steps-end, left-over        the ruling once the steps are read
 --   Read, read-of   what holds of an offer that passes 7 to 9
 use Prim.Native.Nat.{ℕ, _+_, _-_, _*_, _≤_, _<_}

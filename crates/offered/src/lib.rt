@@ -1,6 +1,6 @@
 // The offer as the plain machine takes it: the durations of its steps, and its allocations with their places, copied out of the bytes of
-// a good plant file and a good offer. It rules on nothing. It may use the readers (words, plant, offer), the rule book's definition of what
-// an offer says, the arrays of lines, and allocations as words (putwords).
+// a good plant file and a good offer. It rules on nothing. It may use the readers (words, rulings, plant, offer), plain,
+// the rule book's definition of what an offer says, the array of steps (lines), allocations as words (putwords) and lists.
 use lines::Steps;
 use plain::Put;
 use plain::Step;

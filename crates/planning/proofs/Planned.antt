@@ -45,7 +45,8 @@ use Rattle.drafts.specs.Moment.{ReadPuts}
 use Rattle.board.specs.Boards.{stateOf, boardOf}
 use Rattle.board.specs.Calls.{refused, refusal, settled, after, decided, heard, planned}
 use Rattle.planning.proofs.Drafts.{Joins, DraftJoins, drafted-joins, drafted-lines}
-use Rattle.board.proofs.OnSound.{rules-back, closed, fitting}
+use Rattle.lines.proofs.RuleLaws.{rules-back}
+use Rattle.board.proofs.OnSound.{closed, fitting}
 
 -- ---- an offer that was read
 
@@ -84,7 +85,7 @@ module _ (b : Board) (o : Offer) (r : Drafted) (e : DraftedAs r (drafted (stateO
 
 module _ {b : Board} {o : Offer} {r : Drafted} (g : Going b o r) where
   rules-are : rulesOf (r .rules) ≡ g .rs
-  rules-are = ap rulesOf (g .rules) ∙ rules-back (g .rs) (g .joins .few)
+  rules-are = rules-back (r .rules) (g .rs) (g .rules) (g .joins .few)
 
   module _ (n m : ℕ) (en : n ≡ liveCount (stateOf b)) (em : m ≡ suc (length (o .steps))) where
     points-are : m ≡ g .m

@@ -2,7 +2,7 @@
 --   rowWords r        the four words of a row;  rowsWords rs: of all of them
 --   reportRuled b m   the answer to a report into a list of m words: 6, "The list is shorter than the rows." (22), or accepted; the board stays
 --   rowsAfter r l     the list l of words after that answer: where accepted, the rows of the board, four words each, are written over its front
--- That `reportRuled` is the report's own answer (report/specs/Rows) is the law `report-is` (proofs/Rows).
+-- That `reportRuled` rules as the report itself does (report/specs/Rows) is the law `report-is` (proofs/Rows); the rows are the same `rowsOf`.
 use Prim.Native.Nat.{ℕ, _*_}
 use mathlib.Core.Bool.{cond, not}
 use mathlib.Core.List.{List, [], _∷_}

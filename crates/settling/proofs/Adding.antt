@@ -3,7 +3,7 @@
 --   begins, stops, goes-on, ends   one law for each place of the loop
 --   all-added, not-added   what the answer of the code says: all rules were added, or not, whatever cells stand there then
 --   live-put       the live rows put over those that adding changed, and over those before it
---   usable-wide    a usable rule is usable among more points
+--   usable-wide    a usable rule is usable among more points;  agree, looked-up, usable-here: what the code of one rule asks
 use Prim.Native.Nat.{ℕ, _+_, _*_, _≤_}
 use native.Mathlib.Omega.{arith}
 use mathlib.Core.Path.{_≡_, refl, sym, subst, ap, _∙_}

@@ -5,6 +5,7 @@
 --   asked, frozen-one      what the code of one point asks, and what it gives
 --   frozen-same            points set one after the other;  frozen-append: first some, then others
 --   Freezing l n xs t left   the table t comes of l by setting points of xs, and `left` are left to set
+--   range-.., unsent-..    the points of a job, and of the unsent jobs: the first, the next, none left
 --   begins, goes-on, ends  one law for each place of a loop
 use Prim.Native.Nat.{ℕ, suc, _+_, _-_, _≤_, _<_}
 use native.Mathlib.Omega.{arith}

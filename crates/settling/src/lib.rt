@@ -1,5 +1,5 @@
 // Rules settled on a gap table, where it lies: tried one after the other, points set to their earliest times, or points that leave found to be over.
-// It may use gaps, lines and plain, and boardwords to read the uses of lines where they lie; callers give it a table and rules, and it knows no board.
+// It may use gaps, stn, lists, lines and plain, and boardwords to read the uses of lines where they lie; it rules on nothing.
 mod ending; // whether points that leave are over by the clock
 mod freezing; // points set equal to their earliest times
 

@@ -41,7 +41,7 @@ pub record SizedJob (j : Job) : Type 0 where
   pub least : 2 ≤ j .points
   pub most : j .points ≤ 9
 
--- "resource, offset (0 to 1,000,000), length (1 to 1,000,000)"; "its lines name only live points (not the origin)"
+-- "offset (0 to 1,000,000), length (1 to 1,000,000)"; "its lines name only live points (not the origin)"
 pub record SizedUse (points : ℕ) (u : Use) : Type 0 where
   pub not-origin : 1 ≤ u .point
   pub live : u .point ≤ points

@@ -2,7 +2,7 @@
 // array before the array is walked, and each number with its limit before it is added to another.
 //
 // Each function is one clause of the test in specs/Sound, or a row of them, on the words of the board where they lie.
-// It may use gaptest, gaps, lines, plain and boardwords, and rules on soundness alone.
+// It may use gaptest, gaps, stn, lists, lines, plain and boardwords, and rules on soundness alone.
 mod lining; // the lines
 mod sent; // the jobs that were sent
 mod sizing; // numbers and jobs

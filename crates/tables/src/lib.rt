@@ -1,6 +1,6 @@
 // Two boards compared by their gap tables: by demand 3 the same timetables are possible on both exactly when the tables are equal. A board
 // that is not sound stands for no timetables and is not compared.
-// It may use the structs of a board and the gap table's definitions; equal is demand 3's equal.
+// It may use lines, lists, boardwords and sound; equal is demand 3's equal.
 use boardwords::Board;
 use lines::points;
 use sound::is_sound;

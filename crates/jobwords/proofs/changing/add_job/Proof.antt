@@ -2,7 +2,8 @@
 use native.Mathlib.Omega.{arith}
 use lib.ListN.{length-set}
 use borrow.Author.Needs.{needs}
-use Rattle.jobwords.proofs.Fronts.{stored-length, add-front}
+use Rattle.jobwords.proofs.Fronts.{stored-length}
+use Rattle.jobwords.proofs.Changes.{add-front}
 use Rattle.jobwords.proofs.changing.add_job.Statement.{statement}
 use Rattle.jobwords.proofs.changing.add_job.Tie as tie
 

@@ -3,7 +3,8 @@ use Prim.Native.Nat.{_-_}
 use native.Mathlib.Omega.{arith}
 use lib.ListN.{getD, length-set}
 use borrow.Author.Needs.{needs}
-use Rattle.jobwords.proofs.Fronts.{stored-length, left-front}
+use Rattle.jobwords.proofs.Fronts.{stored-length}
+use Rattle.jobwords.proofs.Changes.{left-front}
 use Rattle.jobwords.proofs.changing.drop_oldest.Statement.{statement}
 use Rattle.jobwords.proofs.changing.drop_oldest.Tie as tie
 

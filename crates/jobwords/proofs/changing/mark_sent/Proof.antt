@@ -1,7 +1,7 @@
 -- `mark_sent` meets its contract: the marks are set, and all words behind the jobs are cleared (`sent-front`).
 use native.Mathlib.Omega.{arith}
 use borrow.Author.Needs.{needs}
-use Rattle.jobwords.proofs.Fronts.{sent-front}
+use Rattle.jobwords.proofs.Changes.{sent-front}
 use Rattle.jobwords.proofs.changing.mark_sent.Statement.{statement}
 use Rattle.jobwords.proofs.changing.mark_sent.Tie as tie
 

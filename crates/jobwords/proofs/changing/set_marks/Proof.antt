@@ -8,7 +8,7 @@ use Rattle.lines.specs.Held.{jobsOf}
 use Rattle.boardwords.specs.Words.{wordIn, heldJobs}
 use Rattle.jobwords.specs.Listed.{Listed}
 use Rattle.boardwords.proofs.Boards.{held-jobs}
-use Rattle.jobwords.proofs.Fronts.{sent-none, sent-more}
+use Rattle.jobwords.proofs.Changes.{sent-none, sent-more}
 use Rattle.jobwords.proofs.changing.set_marks.Statement.{statement}
 use Rattle.jobwords.proofs.changing.set_marks.Tie as tie
 
