@@ -1,17 +1,17 @@
 // Compares the boards that two logs end with: `compare FILE FILE` replays both and says whether the gap tables are equal in every entry,
 // which is whether the same timetables are possible on both boards.
-// It may use session and what it shows, and decides nothing of a call.
-use boardtext::put_gap;
+// It may use log_session and what it shows, and decides nothing of a call.
 use libc::STDOUT_FILENO;
-use session::Options;
-use session::State;
-use session::flush;
-use session::replay_argument;
-use tables::Compared;
-use tables::compare;
-use text::least;
-use text::put;
-use text::put_number;
+use log_boardtext::put_gap;
+use log_session::Options;
+use log_session::flush;
+use log_session::replay_argument;
+use log_tables::Compared;
+use log_tables::compare;
+use log_text::least;
+use log_text::put;
+use log_text::put_number;
+use part_boardwords::BOARD_WORDS;
 
 // Room for a line of output: what waits of an error is short, and a name has at most 4096 bytes.
 const ROOM: usize = 16384;
@@ -21,33 +21,31 @@ fn main() {
         io::write_all(STDOUT_FILENO, b"! use compare FILE FILE\n");
         return;
     }
-    let first = replayed(1);
-    if first.failed {
+    let mut first = [0u32; BOARD_WORDS];
+    if is_wrong(1, &mut first) {
         return;
     }
-    let second = replayed(2);
-    if second.failed {
+    let mut second = [0u32; BOARD_WORDS];
+    if is_wrong(2, &mut second) {
         return;
     }
-    let a = first.board;
-    let b = second.board;
-    write_answer(compare(a, b));
+    write_answer(&first, &second);
 }
 
 // ---- a log
 
-// Replays the kth argument's log without its answers, and writes the error that ended it, if one did.
-fn replayed(k: usize) -> State {
+// Replays the kth argument's log without its answers, and says whether an error ended it, which it writes. The last board is left in the words lent.
+fn is_wrong(k: usize, board: &mut [u32; BOARD_WORDS]) -> bool {
     let mut out = [0u8; ROOM];
     let quiet = Options {
         shown: false,
         explain: false,
     };
-    let state = replay_argument(k, quiet, &mut out);
+    let state = replay_argument(k, quiet, board, &mut out);
     if state.failed {
         write_error(k, &out, state.waiting);
     }
-    state
+    state.failed
 }
 
 // Writes `! FILE: LINE WHY` from the line `! LINE WHY` of the replay.
@@ -71,9 +69,9 @@ fn put_name(out: &mut [u8], k: usize) -> usize {
 
 // ---- the answer
 
-fn write_answer(answer: Compared) {
+fn write_answer(a: &[u32; BOARD_WORDS], b: &[u32; BOARD_WORDS]) {
     let mut out = [0u8; ROOM];
-    let end = put_answer(&mut out, answer);
+    let end = put_answer(&mut out, compare(a, b));
     flush(&out, end);
 }
 

@@ -1,10 +1,10 @@
-// The fact check as the search calls it, from C (include/snipefeather.h). It may use offer and rulings alone, so that a search that only
+// The fact check as the search calls it, from C (include/snipefeather.h). It may use read_offer and base_rulings alone, so that a search that only
 // checks facts links nothing of the board.
-use offer::rule_facts;
-use rulings::number;
+use base_rulings::number;
+use read_offer::rule_facts;
 ghost use mathlib.Core.Path.{_≡_};
-ghost use Rattle.rulings.specs.Answer.{numberOf};
-ghost use Rattle.offer.specs.Offer.{factCheck};
+ghost use Rattle.base_rulings.specs.Answer.{numberOf};
+ghost use Rattle.read_offer.specs.Offer.{factCheck};
 
 // 0, or the number of the first of refusals 1 to 4 and 7 to 13.
 #[no_mangle]

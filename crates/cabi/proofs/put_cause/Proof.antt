@@ -12,17 +12,8 @@ nothing : (l : List ℕ) (v : ℕ) → length l ≡ 0 → l ≡ set l 0 v
 nothing [] v e = refl
 nothing (x ∷ l) v e = absurd (omega arith)
 
-slice-write-cause : tie.Need-slice-write-cause
-slice-write-cause c = search needs
-
-same-length : tie.Need-same-length
-same-length c = search needs
-
-returns : tie.Need-returns
-returns c = search needs
-
 returns-2 : tie.Need-returns-2
 returns-2 c = nothing _ _ (omega arith)
 
 pub put-cause-spec : {M : Type 1} → statement M
-put-cause-spec = tie.close (tie.spec slice-write-cause same-length returns returns-2)
+put-cause-spec = tie.close (tie.spec (λ c. search needs) (λ c. search needs) (λ c. search needs) returns-2)

@@ -1,27 +1,12 @@
--- `sf_retire` meets its contract.
-use Prim.Native.Nat.{_-_}
+-- `sf_retire` meets its contract: the number of what `retire` rules, and the words that it leaves.
+use mathlib.Core.Path.{_∙_, ap}
 use borrow.Author.Needs.{needs}
-use Rattle.board.specs.Calls.{retired}
-use Rattle.cabi.proofs.Answers.{other-length, ruled}
+use Rattle.base_rulings.specs.Answer.{numberOf}
 use Rattle.cabi.proofs.sf_retire.Statement.{statement}
 use Rattle.cabi.proofs.sf_retire.Tie as tie
 
 returns : tie.Need-returns
-returns c = let A = c .before .before .args in other-length retired (A .board .now) (c .if1 .taken)
-
-retire-in-requires : tie.Need-retire-in-requires
-retire-in-requires c κs = search needs
-
-number-requires : tie.Need-number-requires
-number-requires c κs = search needs
-
-same-length : tie.Need-same-length
-same-length c = search needs
-
-returns-2 : tie.Need-returns-2
-returns-2 c = let A = c .before .before .before .before .before .before .before .args in
-    let answer = c .before .before .before .retire-in .ensures in
-    ruled retired (A .board .now) _ _ _ (c .before .before .before .before .before .if1 .left) (answer .0) (answer .1) (c .number .ensures)
+returns c = let answer = c .before .before .before .retire .ensures in (c .number .ensures ∙ ap numberOf (answer .0), answer .1)
 
 pub sf-retire-spec : {M : Type 1} → statement M
-sf-retire-spec = tie.close (tie.spec returns retire-in-requires number-requires same-length returns-2)
+sf-retire-spec = tie.close (tie.spec (λ c κs. search needs) (λ c κs. search needs) (λ c. search needs) returns)

@@ -1,2 +1,0 @@
-// The board's answers are the rule book's, and what that says of timetables: demands 2 and 3. Definitions (specs/) and theorems (proofs/).
-// Nothing in it is run. It may use every crate up to board, report and demands: it alone holds the board to the rule book.

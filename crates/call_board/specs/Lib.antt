@@ -1,0 +1,4 @@
+pub mod Ruled
+pub mod Boards
+pub mod Calls
+pub mod InWords

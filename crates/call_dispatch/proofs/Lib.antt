@@ -1,0 +1,4 @@
+pub mod Clocked
+pub mod Sent
+pub mod Ended
+pub mod Retired

@@ -1,8 +1,0 @@
--- Beside a board, the rule book has a timetable.
-use Rattle.rulebook.specs.Book.{Book, SomePossible}
-use Rattle.demands.specs.Model.{Board}
-use Rattle.demands.specs.Beside.{Sim}
-use Rattle.demands.proofs.Tries.{turned, some-holds}
-
-pub book-some : {bd : Board} {bk : Book} → Sim bd bk → SomePossible bk
-book-some m = rw (turned m) (some-holds (m .holds))

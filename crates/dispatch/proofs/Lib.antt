@@ -1,3 +1,0 @@
-pub mod Clocked
-pub mod Sent
-pub mod Retired

@@ -1,4 +1,0 @@
-pub mod Beside
-pub mod Moment
-pub mod Turned
-pub mod DraftedAs

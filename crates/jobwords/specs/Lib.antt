@@ -1,2 +1,0 @@
-pub mod Fronted
-pub mod Listed

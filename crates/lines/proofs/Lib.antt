@@ -1,8 +1,0 @@
-pub mod Padded
-pub mod Lists
-pub mod JobLaws
-pub mod LineLaws
-pub mod LeavingLaws
-pub mod RuleLaws
-pub mod DraftLaws
-pub mod Placing

@@ -1,0 +1,34 @@
+-- `first_time` meets its contract. The invariant: the least time so far is that of the points passed.
+use Prim.Native.Nat.{_≤_, _-_}
+use mathlib.Core.Path.{_≡_, refl, _∙_}
+use native.Mathlib.Omega.{arith}
+use borrow.Author.Needs.{needs}
+use Rattle.part_gaps.specs.Cells.{tableOf}
+use Rattle.log_chart.specs.Chart.{firstTime}
+use Rattle.log_chart.proofs.Laws.{first-next}
+use Rattle.log_chart.proofs.scale.first_time.Statement.{statement}
+use Rattle.log_chart.proofs.scale.first_time.Tie as tie
+
+abbrev Inv-loop : tie.InvT-loop
+Inv-loop t n time first₀ k₀ first k = (k ≤ n) × (first ≡ firstTime (tableOf t) k time) × (first ≤ time)
+
+abbrev μ-loop : tie.MeasureT-loop
+μ-loop t n time first₀ k₀ first k = n - k
+
+loop-holds : tie.Need-loop-holds Inv-loop μ-loop
+unfolding firstTime
+loop-holds c = (omega arith, refl, omega arith)
+
+loop-again : tie.Need-loop-again Inv-loop μ-loop
+loop-again c = (omega arith, c .smaller .ensures ∙ first-next _ _ _ _ _ (c .before .wide .ensures ∙ c .before .before .earliest .ensures) (c .before .before .before .before .loop .inv .1), omega arith)
+
+returns : tie.Need-returns Inv-loop μ-loop
+returns c = let e : c .before .loop .k ≡ c .before .before .before .args .n = omega arith in
+    (rw e at (c .before .loop .inv .1), c .before .loop .inv .2)
+
+pub first-time-spec : {M : Type 1} → statement M
+first-time-spec =
+    tie.close
+    (tie.spec
+    Inv-loop μ-loop loop-holds (λ c. omega arith) (λ c κs. search needs) (λ c κs. search needs) (λ c κs. search needs) (λ c. omega arith)
+    (λ c. omega arith) loop-again returns)

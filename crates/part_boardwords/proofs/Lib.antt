@@ -1,0 +1,10 @@
+pub mod Filled
+pub mod Blocks
+pub mod Put
+pub mod Parts
+pub mod Inverse
+pub mod Boards
+pub mod Back
+pub mod Lent
+pub mod Written
+pub mod Heads

@@ -1,0 +1,12 @@
+-- `put_job` meets its contract.
+use Prim.Native.Nat.{_-_}
+use borrow.Author.Needs.{needs}
+use Rattle.part_boardwords.proofs.Put.{put-last}
+use Rattle.part_boardwords.proofs.writing.put_job.Statement.{statement}
+use Rattle.part_boardwords.proofs.writing.put_job.Tie as tie
+
+returns : tie.Need-returns
+returns c = put-last _ _ _ _ _ _ _ (c .before .before .put-three .ensures) (c .before .before .before .mark .ensures)
+
+pub put-job-spec : {M : Type 1} → statement M
+put-job-spec = tie.close (tie.spec (λ c κs. search needs) (λ c κs. search needs) (λ c. search needs) returns)

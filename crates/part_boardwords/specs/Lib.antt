@@ -1,0 +1,4 @@
+pub mod Layout
+pub mod Board
+pub mod Words
+pub mod Codec

@@ -1,0 +1,3 @@
+pub mod Moments
+pub mod PlaceLaws
+pub mod DraftLaws

@@ -1,0 +1,31 @@
+-- `begin_rules` meets its contract: the rule (b) alone, and then the rules (c).
+use mathlib.Core.List.{List, [], _∷_, _++_}
+use mathlib.Core.Path.{_∙_, ap}
+use native.Mathlib.Omega.{arith}
+use borrow.Author.Needs.{needs}
+use Rattle.spec_plain.specs.Plain.{notBefore, durations}
+use Rattle.part_lines.specs.Held.{rulesFrom, stepsOf}
+use Rattle.spec_plain.specs.declared.Rule.{Rule}
+use Rattle.part_lines.proofs.RuleLaws.{Room-of, rules-back, first-pushed}
+use Rattle.part_drafts.proofs.drafting.begin_rules.Statement.{statement}
+use Rattle.part_drafts.proofs.drafting.begin_rules.Tie as tie
+
+push-requires : tie.Need-push-requires
+push-requires c κs = Room-of (c .before .no-rules .result) [] 1 (c .before .no-rules .ensures) (omega arith)
+
+add-durations-requires : tie.Need-add-durations-requires
+add-durations-requires c κs =
+    let entry = c .before .before .before in
+    let rule = notBefore (entry .args .first) (entry .args .earliest) in
+    let one = first-pushed (c .before .before .no-rules .result) (c .push .result) (c .before .not-before .result) rule (c .before .before .no-rules .ensures) (c .push .ensures) (c .before .not-before .ensures) in
+    (Room-of (c .push .result) (rule ∷ []) 16 one (omega arith), entry .pre .0, entry .pre .1)
+
+returns : tie.Need-returns
+returns c = let A = c .before .before .before .before .args in
+    let rule = notBefore (A .first) (A .earliest) in
+    let one = first-pushed (c .before .before .before .no-rules .result) (c .before .push .result) (c .before .before .not-before .result) rule (c .before .before .before .no-rules .ensures) (c .before .push .ensures) (c .before .before .not-before .ensures) in
+    c .add-durations .ensures
+    ∙ ap (λ (l : List Rule). rulesFrom (l ++ durations (A .first) (stepsOf (A .steps)))) (rules-back (c .before .push .result) (rule ∷ []) one (omega arith))
+
+pub begin-rules-spec : {M : Type 1} → statement M
+begin-rules-spec = tie.close (tie.spec (λ c κs. search needs) (λ c κs. search needs) push-requires add-durations-requires returns)

@@ -1,0 +1,65 @@
+-- `number_in` meets its contract. After j turns, n is how many uses the line holds once the first j allocations are put in.
+use Prim.Native.Nat.{ℕ, _≤_, _-_, _+_}
+use mathlib.Core.Path.{_≡_, sym, _∙_, ap}
+use mathlib.Core.Logic.{⊎-elim}
+use native.Mathlib.Omega.{arith}
+use lib.ListN.{length}
+use Rattle.spec_plain.specs.declared.Put.{Put}
+use Rattle.part_boardwords.specs.Words.{wordIn}
+use Rattle.part_boardwords.proofs.Boards.{held-size}
+use Rattle.part_drafts.specs.Moment.{lineThen}
+use Rattle.part_drafts.proofs.Moments.{words-few, then-none, then-other, then-long}
+use Rattle.part_drafts.proofs.moment.number_in.Statement.{statement}
+use Rattle.part_drafts.proofs.moment.number_in.Tie as tie
+
+abbrev Inv-loop : tie.InvT-loop
+Inv-loop w puts k resource n₀ j₀ n j = (j ≤ k) × (n ≤ 32 + j) × ((x : ℕ) → n ≡ length (lineThen x w puts j resource))
+
+abbrev μ-loop : tie.MeasureT-loop
+μ-loop w puts k resource n₀ j₀ n j = k - j
+
+cast-n : tie.Need-cast-n Inv-loop μ-loop
+cast-n c = omega (arith, words-few (c .before .before .before .args .w .now) (c .before .before .before .pre .1) (c .before .before .before .args .resource) (c .before .before .before .pre .3))
+
+loop-holds : tie.Need-loop-holds Inv-loop μ-loop
+loop-holds c =
+    let A = c .before .before .before .args in
+    let p = c .before .before .before .pre in
+    let few = words-few (A .w .now) (p .1) (A .resource) (p .3) in (
+      omega arith,
+      omega (arith, few),
+      λ x. sym (ap length (then-none x (A .w .now) (A .puts .now) (A .resource) (p .3)) ∙ held-size (wordIn (A .w .now)) _ few),
+    )
+
+read-put-requires : tie.Need-read-put-requires Inv-loop μ-loop
+read-put-requires c κs = omega (arith, c .before .before .before .before .before .pre .2 .there)
+
+add-n-2 : tie.Need-add-n-2 Inv-loop μ-loop
+add-n-2 c = omega (arith, c .before .before .before .before .loop .inv .1, c .before .before .before .before .before .before .before .before .pre .2 .few)
+
+loop-again : tie.Need-loop-again Inv-loop μ-loop
+loop-again c =
+    let A = c .before .before .before .before .before .before .before .before .args in
+    let p = c .before .before .before .before .before .before .before .before .pre in
+    let L = c .before .before .before .before .loop in
+    let is = ap (λ (q : Put). q .resource) (c .before .before .read-put .ensures) in (
+      omega arith,
+      ⊎-elim (λ v. omega (arith, v .1, L .inv .1)) (λ v. omega (arith, v .1, L .inv .1)) (c .if1 .came),
+      λ x.
+          ⊎-elim (λ v. omega (arith, v .1, L .inv .2 x, then-long x (A .w .now) (A .puts .now) (L .j) (A .resource) (sym is ∙ v .0 .taken) (p .3)))
+          (λ v. omega (arith, v .1, L .inv .2 x, ap length (then-other x (A .w .now) (A .puts .now) (L .j) (A .resource) (λ e. v .0 .left (is ∙ e))))) (c .if1 .came),
+    )
+
+returns : tie.Need-returns Inv-loop μ-loop
+returns c =
+    let A = c .before .before .before .before .before .args in
+    let L = c .before .loop in
+    let end : L .j ≡ A .k = omega arith in
+    λ x. L .inv .2 x ∙ ap (λ (j : ℕ). length (lineThen x (A .w .now) (A .puts .now) j (A .resource))) end
+
+pub number-in-spec : {M : Type 1} → statement M
+number-in-spec =
+    tie.close
+    (tie.spec
+    Inv-loop μ-loop (λ c. omega arith) (λ c. omega arith) (λ c. omega arith) (λ c. omega arith) cast-n loop-holds read-put-requires add-n-2
+    (λ c. omega arith) (λ c. omega arith) loop-again returns)

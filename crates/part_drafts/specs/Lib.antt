@@ -1,0 +1,3 @@
+pub mod Moment
+pub mod Turned
+pub mod DraftedAs

@@ -1,0 +1,65 @@
+// A line at the moment of an allocation: what it holds in the words of the board, with the offer's earlier allocations put in. The words are only
+// read, for the offer may yet be refused.
+ghost use mathlib.Core.Path.{_≡_};
+ghost use Prim.Native.Nat.{ℕ, _≤_, _<_};
+ghost use lib.ListN.{length, getD};
+ghost use Rattle.spec_plain.specs.Limits.{mostPoints, resources};
+ghost use Rattle.spec_plain.specs.Plain.{noUse};
+ghost use Rattle.part_putwords.specs.Puts.{putsIn};
+ghost use Rattle.part_putwords.specs.ReadPuts.{ReadPuts};
+ghost use Rattle.part_lines.specs.Asked.{Lined};
+ghost use Rattle.part_lines.specs.Placing.{AllFit};
+ghost use Rattle.part_boardwords.specs.Layout.{cellsAt};
+ghost use Rattle.part_boardwords.specs.Words.{wordIn, linesRead, linesIn};
+ghost use Rattle.part_drafts.specs.Moment.{lineThen};
+use part_boardwords::layout;
+use part_boardwords::read_use;
+use part_putwords::read_put;
+use part_putwords::used_from;
+use spec_plain::Use;
+
+// How many uses the line of a resource holds once the first k allocations are put in.
+pub fn number_in(w: &[u32], puts: &[u32], k: usize, resource: u32) -> usize
+    requires { ⌜ (cellsAt ≤ length (now w)) × Lined (linesRead (wordIn (now w))) × ReadPuts (now puts) k × (resource < resources) ⌝ }
+    ensures { λ r. ⌜ ((x : ℕ) → r ≡ length (lineThen x (now (w .entry)) (now (puts .entry)) k resource)) ⌝ }
+{
+    let mut n = w[layout::LINES_AT + layout::LINE_SIZE * (resource as usize)] as usize;
+    for j in 0..k {
+        let put = read_put(puts, j);
+        if put.resource == resource {
+            n += 1;
+        }
+    }
+    n
+}
+
+// The use at a place of the line once the first k allocations are put in. They are looked through from the last one on: it is one of them, or where
+// one went in before it, it stood one place lower until then.
+pub fn use_in(w: &[u32], first: u32, puts: &[u32], k: usize, resource: u32, place: usize) -> Use
+    requires { ⌜ (cellsAt ≤ length (now w)) × Lined (linesRead (wordIn (now w))) × ReadPuts (now puts) k × (resource < resources) × (first ≤ mostPoints) ⌝ }
+    requires { ⌜ AllFit first (linesIn (now w)) (putsIn (now puts) k) × (place < length (lineThen first (now w) (now puts) k resource)) ⌝ }
+    ensures { λ r. ⌜ r ≡ getD (lineThen first (now (w .entry)) (now (puts .entry)) k resource) place noUse ⌝ }
+{
+    let mut at = place;
+    let mut j = k;
+    while 0 < j {
+        j -= 1;
+        let put = read_put(puts, j);
+        if put.resource == resource {
+            let there = put.place as usize;
+            if there == at {
+                return used_from(first, put);
+            }
+            if there < at {
+                at -= 1;
+            }
+        }
+    }
+    read_use(
+        w,
+        layout::LINES_AT
+            + layout::LINE_SIZE * (resource as usize)
+            + layout::USES_IN
+            + layout::USE_SIZE * at,
+    )
+}

@@ -1,0 +1,41 @@
+-- `add_job` meets its contract: the job is written behind the others, the count stored, and all words behind cleared (`add-front`).
+use mathlib.Core.Path.{_∙_, ap}
+use native.Mathlib.Omega.{arith}
+use lib.ListN.{length-set}
+use borrow.Author.Needs.{needs}
+use Rattle.spec_plain.specs.declared.Job.{Job}
+use Rattle.spec_plain.specs.Plain.{newJob}
+use Rattle.part_boardwords.specs.Layout.{countAt, jobStart}
+use Rattle.part_boardwords.specs.Words.{wordIn}
+use Rattle.part_boardwords.specs.Codec.{jobWords, put}
+use Rattle.part_jobwords.proofs.Fronts.{stored-length}
+use Rattle.part_jobwords.proofs.Changes.{add-front}
+use Rattle.part_jobwords.proofs.changing.add_job.Statement.{statement}
+use Rattle.part_jobwords.proofs.changing.add_job.Tie as tie
+
+clear-requires : tie.Need-clear-requires
+clear-requires c κs = simp length-set (omega arith, omega arith)
+
+same-length : tie.Need-same-length
+same-length c =
+    let cleared = c .before .before in
+    let written = cleared .before .before .before .before in
+    omega (arith, stored-length (written .put-job .last .0) _ countAt _ _ _ (cleared .clear .ensures))
+
+returns : tie.Need-returns
+returns c =
+    let cleared = c .before .before in
+    let written = cleared .before .before .before .before in
+    let made = written .before in
+    let entry = made .before .before .before .before in
+    let A = entry .args in
+    let W = A .w .now in
+    let is = written .put-job .ensures ∙ ap (λ (j : Job). put W (jobStart (wordIn W countAt)) (jobWords j)) (made .new-job .ensures) in
+    add-front W (written .put-job .last .0) _ (newJob (A .points) (A .batch)) (omega arith) (omega arith) (entry .pre .2) is (cleared .clear .ensures)
+
+pub add-job-spec : {M : Type 1} → statement M
+add-job-spec =
+    tie.close
+    (tie.spec
+    (λ c. search needs) (λ c. search needs) (λ c. search needs) (λ c. search needs) (λ c. search needs) (λ c κs. search needs)
+    (λ c κs. search needs) (λ c. search needs) (λ c. search needs) (λ c. search needs) (λ c. search needs) clear-requires same-length returns)

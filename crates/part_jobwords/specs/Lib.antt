@@ -1,0 +1,3 @@
+pub mod Fronted
+pub mod Listed
+pub mod Counted

@@ -1,0 +1,9 @@
+pub mod Padded
+pub mod Lists
+pub mod JobLaws
+pub mod LineLaws
+pub mod Inserted
+pub mod LeavingLaws
+pub mod RuleLaws
+pub mod DraftLaws
+pub mod Placing

@@ -1,0 +1,101 @@
+-- The uses of an offer's allocations put into lines that are in words, one after the other. Assumes nothing.
+--   PutIn      how the words stand once k allocations are put in
+--   next-fits  what putting in the next one asks for;  next-in: once it is put in
+--   all-in     once all are put in
+use Prim.Native.Nat.{ℕ, _+_, _*_, _≤_, _<_}
+use mathlib.Core.Path.{_≡_, sym, _∙_, ap, subst}
+use mathlib.Core.List.{List, [], _∷_}
+use lib.ListN.{length, getD, set, drop}
+use native.Mathlib.Omega.{arith}
+use Rattle.spec_plain.specs.Limits.{resources}
+use Rattle.spec_plain.specs.declared.Put.{Put}
+use Rattle.spec_plain.specs.declared.Use.{Use}
+use Rattle.spec_plain.specs.Plain.{inserted, usedFrom}
+use Rattle.part_putwords.specs.Puts.{putAt, putsIn}
+use Rattle.part_putwords.specs.ReadPuts.{ReadPuts}
+use Rattle.part_putwords.proofs.Read.{left-next, left-over, used-short}
+use Rattle.part_lines.specs.declared.Line.{Line}
+use Rattle.part_lines.specs.Held.{lineOf, lineFrom, linesOf, linesFrom}
+use Rattle.part_lines.specs.Asked.{Short, Ready, Readable}
+use Rattle.part_lines.specs.Placing.{linesWith, allWith, AllFit}
+use Rattle.part_boardwords.specs.Layout.{linesAt, cellsAt, lineStart}
+use Rattle.part_boardwords.specs.Words.{wordIn, lineAt, linesRead, linesIn}
+use Rattle.part_boardwords.specs.Codec.{linesWords, put}
+use Rattle.part_boardwords.proofs.Boards.{line-held}
+use Rattle.part_boardwords.proofs.Written.{lines-put}
+use Rattle.part_linewords.specs.Beside.{Tidy, Beside}
+use Rattle.part_linewords.proofs.WordLaws.{lines-set}
+use Rattle.part_linewords.proofs.ReadyLaws.{words-tidy, words-size, stays-ready}
+
+-- the words w are the words v with the first k of n allocations put in, where p0 of their job is point x
+pub record PutIn (x : ℕ) (puts : List ℕ) (n : ℕ) (v w : List ℕ) (k : ℕ) : Type 0 where
+  pub ready : Ready (linesRead (wordIn w))
+  -- those that are left fit
+  pub fits : AllFit x (linesIn w) (drop k (putsIn puts n))
+  -- and with them put in too, the lines are those with all of them put in
+  pub whole : allWith x (linesIn w) (drop k (putsIn puts n)) ≡ allWith x (linesIn v) (putsIn puts n)
+  -- the words before the lines and behind them are what they were
+  pub below : (i : ℕ) → i < linesAt → wordIn w i ≡ wordIn v i
+  pub behind : (i : ℕ) → cellsAt ≤ i → wordIn w i ≡ wordIn v i
+  pub size : length w ≡ length v
+
+module _
+    {x : ℕ} {puts : List ℕ} {n : ℕ} {v w : List ℕ} {k : ℕ} (s : PutIn x puts n v w k) (more : k < n) (read : ReadPuts puts n) (p : Put)
+    (is : p ≡ putAt puts k) where
+  left : drop k (putsIn puts n) ≡ p ∷ drop (k + 1) (putsIn puts n)
+  left = left-next puts n k more ∙ ap (λ (q : Put). q ∷ drop (k + 1) (putsIn puts n)) (sym is)
+
+  there : p .resource < resources
+  there = subst Readable (sym is) (read .each k more) .resource
+
+  fits-now :
+      (p .place ≤ length (getD (linesIn w) (p .resource) []))
+      × (length (getD (linesIn w) (p .resource) []) < 32)
+      × AllFit x (linesWith x (linesIn w) p) (drop (k + 1) (putsIn puts n))
+  unfolding AllFit
+  fits-now = subst (AllFit x (linesIn w)) left (s .fits)
+
+  pub next-fits :
+      (p .place ≤ wordIn w (lineStart (p .resource))) × (wordIn w (lineStart (p .resource)) < 32) × Tidy (lineAt (wordIn w) (p .resource))
+  next-fits =
+      let size : length (getD (linesIn w) (p .resource) []) ≡ wordIn w (lineStart (p .resource)) =
+      ap length (line-held (wordIn w) (p .resource) there) ∙ words-size (wordIn w) (s .ready) (p .resource) there in
+      (omega (arith, size, fits-now .0), omega (arith, size, fits-now .1), words-tidy (wordIn w) (s .ready) (p .resource) there)
+
+  module _ (u : Use) (used : u ≡ usedFrom x p) (y : List ℕ) (same : length y ≡ length w)
+      (line : lineAt (wordIn y) (p .resource) ≡ lineFrom (inserted (p .place) u (lineOf (lineAt (wordIn w) (p .resource)))))
+      (beside : Beside (lineStart (p .resource)) (wordIn w) (wordIn y)) where
+    short : Short u
+    short = subst Short (sym used) (used-short x p (subst Readable (sym is) (read .each k more)))
+
+    -- the line with the use, as one of the lines that are held
+    set-line : (linesIn y ≡ linesWith x (linesIn w) p) × Ready (linesRead (wordIn y))
+    set-line =
+        let r = p .resource in
+        let e = lines-set (wordIn w) (wordIn y) r there beside in
+        let stays =
+        stays-ready (linesRead (wordIn w)) r (p .place) u (lineAt (wordIn y) r) (s .ready) short (fits-now .1)
+        (line ∙ ap (λ (l : List Use). lineFrom (inserted (p .place) u l)) (sym (line-held (wordIn w) r there))) in
+        (ap linesOf e ∙ stays .0 ∙ ap (λ (a : Use). set (linesIn w) r (inserted (p .place) a (getD (linesIn w) r []))) used, subst Ready (sym e) (stays .1))
+
+    pub next-in : PutIn x puts n v y (k + 1)
+    unfolding allWith
+    next-in =
+        let rest = drop (k + 1) (putsIn puts n) in
+        record {
+          ready = set-line .1;
+          fits = subst (λ (ls : List (List Use)). AllFit x ls rest) (sym (set-line .0)) (fits-now .2);
+          whole = ap (λ (ls : List (List Use)). allWith x ls rest) (set-line .0) ∙ sym (ap (allWith x (linesIn w)) left) ∙ s .whole;
+          below = λ i h. beside .0 i (omega arith) ∙ s .below i h;
+          behind = λ i h. beside .1 i (omega (arith, there)) ∙ s .behind i h;
+          size = same ∙ s .size;
+        }
+
+pub all-in :
+    {x : ℕ} {puts : List ℕ} {n : ℕ} {v w : List ℕ} {k : ℕ} → PutIn x puts n v w k → n ≤ k → cellsAt ≤ length v
+    → w ≡ put v linesAt (linesWords (linesFrom (allWith x (linesIn v) (putsIn puts n))))
+unfolding allWith
+all-in {x = x} {puts = puts} {n = n} {v = v} {w = w} {k = k} s over room =
+    let held : linesIn w ≡ allWith x (linesIn v) (putsIn puts n) = sym (ap (allWith x (linesIn w)) (left-over puts n k over)) ∙ s .whole in
+    lines-put v w room (s .size) (s .below) (s .behind)
+    ∙ ap (λ (ls : List Line). put v linesAt (linesWords ls)) (s .ready .tidy ∙ ap linesFrom held)

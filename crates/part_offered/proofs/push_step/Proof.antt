@@ -1,0 +1,42 @@
+-- `push_step` meets its contract. The loop's invariant: behind the first `many` allocations stand the first j of step k.
+use Prim.Native.Nat.{_≤_, _-_, _+_}
+use mathlib.Core.Path.{_≡_}
+use mathlib.Core.List.{_++_}
+use native.Mathlib.Omega.{arith}
+use lib.ListN.{length}
+use Rattle.spec_rulebook.specs.Reading.{putsOfStep}
+use Rattle.part_putwords.specs.Puts.{putsIn}
+use Rattle.part_offered.proofs.Laws.{step-none, step-more, step-done}
+use Rattle.part_offered.proofs.push_step.Statement.{statement}
+use Rattle.part_offered.proofs.push_step.Tie as tie
+
+abbrev Inv-loop : tie.InvT-loop
+Inv-loop plant offer k start at n puts₀ many j₀ puts j =
+    (j ≤ n) × (putsIn puts (many + j) ≡ putsIn puts₀ many ++ putsOfStep plant offer k 0 j) × (length puts ≡ length puts₀)
+
+abbrev μ-loop : tie.MeasureT-loop
+μ-loop plant offer k start at n puts₀ many j₀ puts j = n - j
+
+loop-holds : tie.Need-loop-holds Inv-loop μ-loop
+loop-holds c = (omega arith, step-none _ _ _ _ _, omega arith)
+
+put-at-requires : tie.Need-put-at-requires Inv-loop μ-loop
+put-at-requires c κs = (c .before .before .before .before .before .before .pre .0, (omega arith, omega arith))
+
+loop-again : tie.Need-loop-again Inv-loop μ-loop
+loop-again c =
+    let L = c .before .before .before .before .before .before .loop in (
+      omega arith,
+      step-more _ _ _ _ _ _ _ (L .inv .1) _ _ (c .before .before .before .put-at .ensures) (c .before .before .push-put .ensures),
+      omega arith,
+    )
+
+returns : tie.Need-returns Inv-loop μ-loop
+returns c = step-done _ _ _ _ _ _ _ (c .before .loop .inv .1) _ (omega arith)
+
+pub push-step-spec : {M : Type 1} → statement M
+push-step-spec =
+    tie.close
+    (tie.spec
+    Inv-loop μ-loop loop-holds (λ c. omega arith) put-at-requires (λ c κs. omega arith) (λ c. omega arith) (λ c. omega arith) loop-again
+    (λ c. omega arith) returns)

@@ -1,0 +1,75 @@
+-- `freeze` meets its contract. The loop goes down the list of jobs: the points set so far and those of the jobs left are all of them.
+use Prim.Native.Nat.{_≤_, _-_, _+_}
+use native.Mathlib.Omega.{arith}
+use mathlib.Core.Path.{_≡_, ap}
+use lib.ListN.{drop, length}
+use borrow.Author.Needs.{needs}
+use Rattle.spec_plain.specs.Limits.{mostJobs}
+use Rattle.spec_plain.specs.Plain.{total, unsentPoints}
+use Rattle.part_lines.specs.Held.{jobsOf, noJob}
+use Rattle.part_lines.proofs.Lists.{held-next, length-mapped}
+use Rattle.spec_plain.proofs.Points.{unsent-below}
+use Rattle.part_settling.proofs.Frozen.{Freezing, begins, goes-on, ends, unsent-first, unsent-next, unsent-over}
+use Rattle.part_settling.proofs.freezing.freeze.Statement.{statement}
+use Rattle.part_settling.proofs.freezing.freeze.Tie as tie
+
+abbrev Inv-loop : tie.InvT-loop
+Inv-loop t₀ n count jobs x₀ k₀ t x k = (k ≤ count)
+    × Freezing t₀ n (unsentPoints 1 count (jobsOf jobs)) t (unsentPoints x (count - k) (drop k (jobsOf jobs)))
+    × (x + total (drop k (jobsOf jobs)) ≡ n)
+    × (length (jobs .jobs) ≡ mostJobs)
+
+abbrev μ-loop : tie.MeasureT-loop
+μ-loop t₀ n count jobs x₀ k₀ t x k = count - k
+
+loop-holds : tie.Need-loop-holds Inv-loop μ-loop
+loop-holds c =
+    let p = c .before .pre in (
+      omega arith,
+      begins _ _ _ _ (p .0 .0) (p .0 .2) (unsent-below _ _ _ 1 (omega (arith, p .0 .1))) (unsent-first _ _ _),
+      omega (arith, p .0 .1),
+      search (needs, length-mapped),
+    )
+
+freeze-job-requires : tie.Need-freeze-job-requires Inv-loop μ-loop
+unfolding total
+freeze-job-requires c κs =
+    let L = c .before .before .before .loop in
+    let entry = c .before .before .before .before .before in
+    let q = entry .args .t3 in
+    let next = ap total (held-next (q .count) (q .jobs) (L .k) noJob (omega arith) (omega arith)) in
+    (L .inv .1 .cells, omega (arith, entry .pre .1 .0 .points, entry .pre .0 .1), omega (arith, next), L .inv .1 .closed)
+
+add-x : tie.Need-add-x Inv-loop μ-loop
+unfolding total
+add-x c =
+    let L = c .before .before .before .before .before .before .before .loop in
+    let entry = c .before .before .before .before .before .before .before .before .before in
+    let q = entry .args .t3 in
+    let next = ap total (held-next (q .count) (q .jobs) (L .k) noJob (omega arith) (omega arith)) in
+    omega (arith, next, entry .pre .1 .0 .points, entry .pre .0 .1)
+
+loop-again : tie.Need-loop-again Inv-loop μ-loop
+unfolding total
+loop-again c =
+    let L = c .before .before .before .before .before .before .before .loop in
+    let entry = c .before .before .before .before .before .before .before .before .before in
+    let q = entry .args .t3 in
+    let held = held-next (q .count) (q .jobs) (L .k) noJob (omega arith) (omega arith) in (
+      omega arith,
+      goes-on (L .inv .1) (omega (arith, entry .pre .1 .0 .points, entry .pre .0 .1)) _ _
+          (unsent-next _ (L .k) (entry .args .count) _ _ _ (c .before .before .before .before .before .before .loop-test .taken) held) _
+          (c .before .before .before .freeze-job .ensures),
+      omega (arith, ap total held),
+      L .inv .3,
+    )
+
+returns : tie.Need-returns Inv-loop μ-loop
+returns c = ends (c .before .loop .inv .1) (unsent-over _ _ _ _ (c .loop-test .left))
+
+pub freeze-spec : {M : Type 1} → statement M
+freeze-spec =
+    tie.close
+    (tie.spec
+    Inv-loop μ-loop loop-holds (λ c. omega arith) (λ c. omega arith) freeze-job-requires add-x (λ c. omega arith) (λ c. omega arith) loop-again
+    (λ c. omega arith) returns)

@@ -1,0 +1,4 @@
+pub mod Flags
+pub mod Soundness
+pub mod InWords
+pub mod Whole

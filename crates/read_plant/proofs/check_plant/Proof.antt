@@ -1,0 +1,32 @@
+-- `check_plant` meets its contract: 1 for each of its reasons, 2, or what the records come to.
+use borrow.Author.Tests.{lt-ltb, not-true, not-false}
+use Rattle.read_plant.specs.Plant.{plantRuling}
+use Rattle.read_plant.proofs.Good.{unmarked, bad-layout, on-to-records, layout-fits}
+use Prim.Native.Nat.{_-_}
+use mathlib.Core.Path.{sym, _∙_}
+use borrow.Author.Needs.{needs}
+use Rattle.read_plant.proofs.check_plant.Statement.{statement}
+use Rattle.read_plant.proofs.check_plant.Tie as tie
+
+returns : tie.Need-returns
+unfolding plantRuling
+returns c = simp (lt-ltb _ _ (c .if1 .taken))
+
+returns-2 : tie.Need-returns-2
+returns-2 c = unmarked _ _ (c .before .before .if1 .left) (c .before .is-marked .ensures) (not-true _ (c .if2 .taken))
+
+returns-3 : tie.Need-returns-3
+returns-3 c = bad-layout _ _ _ (c .before .before .before .before .before .if1 .left) (c .before .before .before .before .is-marked .ensures) (c .before .before .read-trailer .ensures .0) (not-false _ (c .before .before .before .if2 .left)) (sym (c .before .is-bad-layout .ensures) ∙ c .if3 .taken)
+
+read-records-requires : tie.Need-read-records-requires
+read-records-requires c κs = (c .before .before .read-trailer .ensures .0, layout-fits _ _ (sym (c .before .is-bad-layout .ensures) ∙ c .if3 .left))
+
+returns-4 : tie.Need-returns-4
+returns-4 c = c .read-records .ensures ∙ on-to-records _ _ _ (c .before .before .before .before .before .before .if1 .left) (c .before .before .before .before .before .is-marked .ensures) (c .before .before .before .read-trailer .ensures .0) (not-false _ (c .before .before .before .before .if2 .left)) (sym (c .before .before .is-bad-layout .ensures) ∙ c .before .if3 .left)
+
+pub check-plant-spec : {M : Type 1} → statement M
+check-plant-spec =
+    tie.close
+    (tie.spec
+    returns (λ c. search needs) (λ c κs. search needs) returns-2 (λ c κs. search needs) (λ c κs. search needs) returns-3 read-records-requires
+    returns-4)

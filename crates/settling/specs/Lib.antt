@@ -1,3 +1,0 @@
-pub mod Settled
-pub mod Frozen
-pub mod Ending

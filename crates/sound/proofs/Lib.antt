@@ -1,4 +1,0 @@
-pub mod Flags
-pub mod Soundness
-pub mod InWords
-pub mod ByValue

@@ -1,0 +1,4 @@
+pub mod Limits
+pub mod Plain
+pub mod Rules
+pub mod Sent

@@ -1,0 +1,52 @@
+-- The proving table's test, computed over the whole table. It stands on definitions alone, so that a definition which comes to something else
+-- is refused here. Assumes nothing.
+--   plant-length, offer-length    the bytes are as many as document 01 says
+--   Computes, AllCompute          what is computed of a case, of each of a list
+--   computed, further-computed    both tables compute;  shownOpen: the definitions to unfold for it
+use mathlib.Core.Path.{_≡_, refl}
+use mathlib.Core.Bool.{true}
+use mathlib.Core.List.{List, [], _∷_}
+use lib.Count.{trailingZeros}
+use lib.Dec.{leb}
+use lib.ListN.{length}
+use Rattle.spec_stn.specs.Table.{bias}
+use Rattle.theorem_demands.specs.Model as Model
+use Rattle.theorem_demands.specs.Tidy as Tidy
+use Rattle.theorem_demands.specs.Cases.{Case}
+use Rattle.base_lists.specs.Loops.{allBelow}
+use Rattle.theorem_demands.specs.Shown.{isAccepted, kindOf, sameRuling, sameRulings, readable, sameCells, sameBoards, shown, allShown}
+use Rattle.theorem_demands.specs.ProvingTable.{plant, jobJ, table, furtherTable}
+use Rattle.theorem_demands.proofs.Computing.{computing}
+
+-- the bytes are as many as document 01 says
+pub plant-length : length plant ≡ 120
+plant-length = refl
+
+pub offer-length : length (jobJ 0 0) ≡ 36
+offer-length = refl
+
+-- what is computed of a case: its horizon is in range, its calls are ruled so, and the board at the end shows what is expected
+abbrev pub Computes : Case → Type 0
+Computes c =
+    (leb (c .settings .horizon) bias ≡ true)
+    × (Tidy.rules (Model.fresh (c .settings)) (c .calls) ≡ c .rulings)
+    × (allShown (Tidy.runs (Model.fresh (c .settings)) (c .calls)) (c .expects) ≡ true)
+
+abbrev pub AllCompute : List Case → Type 0
+AllCompute [] = Unit {0}
+AllCompute (c ∷ cs) = Computes c × AllCompute cs
+
+unfoldable pub shownOpen : Unit {0}
+unfolding isAccepted kindOf sameRuling sameRulings readable sameCells allBelow sameBoards shown allShown
+shownOpen = tt
+
+-- each of document 01's fifteen rows computes, and each of our own
+pub computed : AllCompute table
+unfolding computing shownOpen trailingZeros
+computed =
+    ((refl, refl, refl), ((refl, refl, refl), ((refl, refl, refl), ((refl, refl, refl), ((refl, refl, refl), ((refl, refl, refl), ((refl, refl, refl), ((refl, refl, refl), ((refl, refl, refl), ((refl, refl, refl), ((refl, refl, refl), ((refl, refl, refl), ((refl, refl, refl), ((refl, refl, refl), ((refl, refl, refl), tt)))))))))))))))
+
+pub further-computed : AllCompute furtherTable
+unfolding computing shownOpen trailingZeros
+further-computed =
+    ((refl, refl, refl), ((refl, refl, refl), ((refl, refl, refl), ((refl, refl, refl), ((refl, refl, refl), ((refl, refl, refl), ((refl, refl, refl), ((refl, refl, refl), ((refl, refl, refl), ((refl, refl, refl), tt))))))))))

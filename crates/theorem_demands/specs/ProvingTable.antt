@@ -1,0 +1,153 @@
+-- The proving table of document 01, cases a to i and k to n, from bytes.
+--   plant         "A0 needs fact 0, makes 1 true and 0 false, 10 to 20 ms, resource 0, offset 0, length 10. A1 needs 1, makes 2 true and
+--                 1 false, 5 to 5. A2 needs 3, makes none, 1 to 1. It has 120 bytes, index at 96."
+--   jobJ b place  "Job J: fact 0 known true, goal fact 2 true, A0 A1", in batch b, with this place
+--   settingsFrom  a board's H and D;  usual: a case on the usual board
+--   table         document 01's cases
+--   furtherTable  cases of our own, for what those do not show
+-- Point 0 is the origin; where the first job is J, its points are 1, 2, 3, and the second job's start is 4.
+use mathlib.Core.List.{List, [], _∷_, _++_}
+use Prim.Native.Nat.{ℕ, _/_, _%_}
+use Rattle.base_rulings.specs.declared.Ruling.{Ruling}
+use Rattle.base_rulings.specs.declared.Ruling.the-variants.{Accepted}
+use Rattle.base_rulings.specs.Answer.{refuse, refused}
+use Rattle.spec_plain.specs.declared.Settings.{Settings}
+use Rattle.spec_rulebook.specs.Book.{Call, plan, send, clock, retire}
+use Rattle.theorem_demands.specs.Cases.{Expect, earliest, latest, runs, fails, same, Case}
+
+-- a u32, low byte first, and several of them
+abbrev pub u32 : ℕ → List ℕ
+u32 n = n % 256 ∷ n / 256 % 256 ∷ n / 65536 % 256 ∷ n / 16777216 % 256 ∷ []
+
+abbrev pub u32s : List ℕ → List ℕ
+u32s [] = []
+u32s (n ∷ ns) = u32 n ++ u32s ns
+
+-- facts as masks
+abbrev fact0 : ℕ
+fact0 = 1
+
+abbrev fact1 : ℕ
+fact1 = 2
+
+abbrev fact2 : ℕ
+fact2 = 4
+
+abbrev fact3 : ℕ
+fact3 = 8
+
+-- needs-true, needs-false, makes-true, makes-false, shortest, longest; n and its spare bytes; n allocations
+abbrev pub plant : List ℕ
+plant =
+    u32s (fact0 ∷ 0 ∷ fact1 ∷ fact0 ∷ 10 ∷ 20 ∷ []) ++ (1 ∷ 0 ∷ 0 ∷ 0 ∷ []) ++ u32s (0 ∷ 0 ∷ 10 ∷ [])
+    ++ u32s (fact1 ∷ 0 ∷ fact2 ∷ fact1 ∷ 5 ∷ 5 ∷ []) ++ (0 ∷ 0 ∷ 0 ∷ 0 ∷ [])
+    ++ u32s (fact3 ∷ 0 ∷ 0 ∷ 0 ∷ 1 ∷ 1 ∷ []) ++ (0 ∷ 0 ∷ 0 ∷ 0 ∷ [])
+    ++ u32s (0 ∷ 40 ∷ 68 ∷ [])
+    ++ u32s (96 ∷ 3 ∷ []) ++ (0x50 ∷ 0x4C ∷ 0x4E ∷ 0x54 ∷ [])
+
+-- batch, known-true, known-false, goal-true, goal-false, step count; per step its action and the places of its allocations
+abbrev pub jobJ : ℕ → ℕ → List ℕ
+jobJ b place = u32s (b ∷ fact0 ∷ 0 ∷ fact2 ∷ 0 ∷ 2 ∷ []) ++ u32s (0 ∷ place ∷ []) ++ u32s (1 ∷ [])
+
+-- J's goal by A1 A0
+abbrev pub offerB : List ℕ
+offerB = u32s (0 ∷ fact0 ∷ 0 ∷ fact2 ∷ 0 ∷ 2 ∷ []) ++ u32s (1 ∷ []) ++ u32s (0 ∷ 0 ∷ [])
+
+-- goal facts 0 and 2
+abbrev pub offerC : List ℕ
+offerC = u32s (0 ∷ fact0 ∷ 0 ∷ 5 ∷ 0 ∷ 2 ∷ []) ++ u32s (0 ∷ 0 ∷ []) ++ u32s (1 ∷ [])
+
+-- goal fact 3 false, A2
+abbrev pub offerD : List ℕ
+offerD = u32s (0 ∷ 0 ∷ 0 ∷ 0 ∷ fact3 ∷ 1 ∷ []) ++ u32s (2 ∷ [])
+
+-- goal fact 0 false, A0 alone, fact 0 known true
+abbrev pub offerE : List ℕ
+offerE = u32s (0 ∷ fact0 ∷ 0 ∷ 0 ∷ fact0 ∷ 1 ∷ []) ++ u32s (0 ∷ 0 ∷ [])
+
+-- A2 in a batch, with fact 3 known and wanted
+abbrev pub offerM : ℕ → List ℕ
+offerM b = u32s (b ∷ fact3 ∷ 0 ∷ fact3 ∷ 0 ∷ 1 ∷ []) ++ u32s (2 ∷ [])
+
+-- a board's H and D
+abbrev settingsFrom : ℕ → ℕ → Settings
+settingsFrom H D = record { horizon = H; lead = D }
+
+-- "H = 1000, D = 5 unless said"
+abbrev usual : List Call → List Ruling → List Expect → Case
+usual cs rs xs = record { settings = settingsFrom 1000 5; calls = cs; rulings = rs; expects = xs }
+
+-- J, placed first in its line
+abbrev J : Call
+J = plan plant (jobJ 0 0)
+
+abbrev pub table : List Case
+table =
+    -- a: J gives windows 5..985, 15..995, 20..1000
+    usual (J ∷ []) (Accepted ∷ []) (earliest 1 5 ∷ latest 1 985 ∷ earliest 2 15 ∷ latest 2 995 ∷ earliest 3 20 ∷ latest 3 1000 ∷ [])
+    -- b: A1 A0 for J's goal: 13, fact 1
+    ∷ usual (plan plant offerB ∷ []) (refused 13 1 ∷ []) (fails plant offerB ∷ [])
+    -- c: goal facts 0 and 2: 11, step 0
+    ∷ usual (plan plant offerC ∷ []) (refused 11 0 ∷ []) (fails plant offerC ∷ [])
+    -- d: goal fact 3 false, A2: 12, step 0
+    ∷ usual (plan plant offerD ∷ []) (refused 12 0 ∷ []) (fails plant offerD ∷ [])
+    -- e: goal fact 0 false, A0 alone, fact 0 known true: accepted
+    ∷ usual (plan plant offerE ∷ []) (Accepted ∷ []) (runs plant offerE ∷ [])
+    -- f: H = 20 accepts J; g: H = 19: 17
+    ∷ record { settings = settingsFrom 20 5; calls = J ∷ []; rulings = Accepted ∷ []; expects = [] }
+    ∷ record { settings = settingsFrom 19 5; calls = J ∷ []; rulings = refuse 17 ∷ []; expects = [] }
+    -- h: J again with place 1: starts at 15 earliest, first J's start 5..975
+    ∷ usual (J ∷ plan plant (jobJ 0 1) ∷ []) (Accepted ∷ Accepted ∷ []) (earliest 4 15 ∷ earliest 1 5 ∷ latest 1 975 ∷ [])
+    -- i: J sent, J again with place 0: 17
+    ∷ usual (J ∷ send 0 ∷ J ∷ []) (Accepted ∷ Accepted ∷ refuse 17 ∷ []) []
+    -- k: J, clock 980: start 985..985; clock 981 instead: 20
+    ∷ usual (J ∷ clock 980 ∷ []) (Accepted ∷ Accepted ∷ []) (earliest 1 985 ∷ latest 1 985 ∷ [])
+    ∷ usual (J ∷ clock 981 ∷ []) (Accepted ∷ refuse 20 ∷ []) []
+    -- l: J sent, clock 19: retire is 21; clock 20: accepted
+    ∷ usual (J ∷ send 0 ∷ clock 19 ∷ retire ∷ []) (Accepted ∷ Accepted ∷ Accepted ∷ refuse 21 ∷ []) []
+    ∷ usual (J ∷ send 0 ∷ clock 20 ∷ retire ∷ []) (Accepted ∷ Accepted ∷ Accepted ∷ Accepted ∷ []) []
+    -- m: J in batch 7, then A2 in batch 7 with fact 3 known and wanted: earliest 19, 20
+    ∷ usual (plan plant (jobJ 7 0) ∷ plan plant (offerM 7) ∷ []) (Accepted ∷ Accepted ∷ []) (earliest 4 19 ∷ earliest 5 20 ∷ [])
+    -- n: D = 5 at clock 0 and D = 0 at clock 5, then J: equal tables
+    ∷ usual (J ∷ []) (Accepted ∷ []) (same (settingsFrom 1000 0) (clock 5 ∷ J ∷ []) (Accepted ∷ Accepted ∷ []) ∷ [])
+    ∷ []
+
+-- ---- cases of our own
+
+-- a plant of one action, whose record has these durations and n allocations, and ends at `index`
+abbrev onePlant : ℕ → ℕ → List ℕ → ℕ → List ℕ
+onePlant long n allocations index =
+    u32s (0 ∷ 0 ∷ 0 ∷ 0 ∷ long ∷ long ∷ []) ++ (n ∷ 0 ∷ 0 ∷ 0 ∷ []) ++ u32s allocations
+    ++ u32s (0 ∷ []) ++ u32s (index ∷ 1 ∷ []) ++ (0x50 ∷ 0x4C ∷ 0x4E ∷ 0x54 ∷ [])
+
+-- an offer of that action, with these places
+abbrev oneOffer : List ℕ → List ℕ
+oneOffer places = u32s (0 ∷ 0 ∷ 0 ∷ 0 ∷ 0 ∷ 1 ∷ []) ++ u32s (0 ∷ []) ++ u32s places
+
+-- 40 ms, with two uses of resource 0: 0 to 10 and 20 to 30
+abbrev pub plantTwice : List ℕ
+plantTwice = onePlant 40 2 (0 ∷ 0 ∷ 10 ∷ 0 ∷ 20 ∷ 10 ∷ []) 52
+
+-- 1 ms, with a use of resource 0 that outlasts it: 0 to 30
+abbrev pub plantLong : List ℕ
+plantLong = onePlant 1 1 (0 ∷ 0 ∷ 30 ∷ []) 40
+
+abbrev pub furtherTable : List Case
+furtherTable =
+    -- a place counts the offer's own earlier allocations: the second goes behind the first, and no further
+    usual (plan plantTwice (oneOffer (0 ∷ 1 ∷ [])) ∷ []) (Accepted ∷ []) []
+    ∷ usual (plan plantTwice (oneOffer (0 ∷ 2 ∷ [])) ∷ []) (refused 15 1 ∷ []) []
+    -- put before the first it would have to end before it starts: a rule of a point with itself, and false
+    ∷ usual (plan plantTwice (oneOffer (0 ∷ 0 ∷ [])) ∷ []) (refuse 17 ∷ []) []
+    -- rule (e) goes by the newest job of the batch: A2 ends at 6, J at 20, and the next A2 no earlier than J
+    ∷ usual (plan plant (offerM 7) ∷ plan plant (jobJ 7 0) ∷ plan plant (offerM 7) ∷ []) (Accepted ∷ Accepted ∷ Accepted ∷ []) (earliest 2 6 ∷ earliest 5 20 ∷ earliest 7 20 ∷ [])
+    -- an allocation that outlasts its step: the last point is at 6, and the job retires at 35
+    ∷ usual (plan plantLong (oneOffer (0 ∷ [])) ∷ send 0 ∷ clock 34 ∷ retire ∷ []) (Accepted ∷ Accepted ∷ Accepted ∷ refuse 21 ∷ []) []
+    ∷ usual (plan plantLong (oneOffer (0 ∷ [])) ∷ send 0 ∷ clock 35 ∷ retire ∷ []) (Accepted ∷ Accepted ∷ Accepted ∷ Accepted ∷ []) []
+    -- a retired job's effect stays: the second job, behind the first in the line, starts at 35 as before
+    ∷ usual (plan plantLong (oneOffer (0 ∷ [])) ∷ plan plantLong (oneOffer (1 ∷ [])) ∷ send 0 ∷ clock 30 ∷ []) (Accepted ∷ Accepted ∷ Accepted ∷ Accepted ∷ []) (earliest 3 35 ∷ [])
+    ∷ usual (plan plantLong (oneOffer (0 ∷ [])) ∷ plan plantLong (oneOffer (1 ∷ [])) ∷ send 1 ∷ clock 35 ∷ retire ∷ []) (Accepted ∷ Accepted ∷ Accepted ∷ Accepted ∷ Accepted ∷ []) (earliest 1 35 ∷ latest 1 35 ∷ [])
+    -- 18 past the list and of a sent job; 19 back and past H; a job that is not sent stays
+    ∷ usual (J ∷ send 1 ∷ send 0 ∷ send 0 ∷ clock 5 ∷ clock 4 ∷ clock 1001 ∷ []) (Accepted ∷ refuse 18 ∷ Accepted ∷ refuse 18 ∷ Accepted ∷ refuse 19 ∷ refuse 19 ∷ []) []
+    ∷ usual (retire ∷ J ∷ retire ∷ []) (refuse 21 ∷ Accepted ∷ refuse 21 ∷ []) []
+    ∷ []

@@ -1,2 +1,0 @@
-pub mod GivenBack
-pub mod ByValue
