@@ -42,28 +42,28 @@ static void plan(const char *sheet, uint32_t known, uint32_t before) {
     size_t offer_len = to_bytes(offer, words, offer_words(words, known, before));
     uint32_t cause;
     uint32_t number = sf_plan(board, SF_BOARD_WORDS, plant, plant_len, offer, offer_len, &cause, 1);
-    if (number == 0)
+    if (number == SF_ACCEPTED)
         printf("plan %s: accepted\n", sheet);
     else
         printf("plan %s: refused with %u, cause %u\n", sheet, (unsigned)number, (unsigned)cause);
 }
 
 static void told(const char *call, uint32_t number) {
-    if (number == 0)
+    if (number == SF_ACCEPTED)
         printf("%s: accepted\n", call);
     else
         printf("%s: refused with %u\n", call, (unsigned)number);
 }
 
 static void report(void) {
-    static uint32_t rows[4 * SF_MOST_ROWS];
-    if (sf_report(board, SF_BOARD_WORDS, rows, 4 * SF_MOST_ROWS) != 0)
+    static struct sf_row rows[SF_MOST_ROWS];
+    if (sf_report(board, SF_BOARD_WORDS, rows, SF_MOST_ROWS) != SF_ACCEPTED)
         return;
     size_t points = 0;
-    for (uint32_t job = 0; job < board[3]; job++) /* word 3 is the number of jobs, word 4 + 3 k the points of job k */
-        points += board[4 + 3 * job];
-    for (const uint32_t *row = rows; row < rows + 4 * points; row += 4)
-        printf("  job %u, point %u: %u to %u ms\n", (unsigned)row[0], (unsigned)row[1], (unsigned)row[2], (unsigned)row[3]);
+    for (uint32_t job = 0; job < board[SF_COUNT_AT]; job++)
+        points += board[SF_JOBS_AT + SF_JOB_WORDS * job + SF_JOB_POINTS];
+    for (const struct sf_row *row = rows; row < rows + points; row++)
+        printf("  job %u, point %u: %u to %u ms\n", (unsigned)row->job, (unsigned)row->point, (unsigned)row->earliest, (unsigned)row->latest);
 }
 
 int main(void) {

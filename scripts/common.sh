@@ -1,4 +1,4 @@
-# What ./check, ./demo, ./bench and ./soak share: plain words on what is being done, and a clear stop where something is missing.
+# What ./check, ./demo, ./bench, ./soak and ./install share: plain words on what is being done, and a clear stop where something is missing.
 
 say() { printf '\n== %s\n' "$*"; }
 
@@ -16,11 +16,20 @@ need_rt() { need rt "the Rattle kit" "install the Rattle kit and put its 'rt' on
 need_cc() { need cc "a C compiler" "install gcc or clang"; }
 need_cargo() { need cargo "Rust's build tool" "install Rust with cargo"; }
 
-# Proves and builds what ./bench and ./soak link: the fact check and the board's calls for C, in target/staticlib.
+# Proves and builds what C and Rust link: the fact check and the board's calls for C, in target/staticlib.
 build_libraries() {
     local library
     say "proving and building the static libraries (some minutes the first time)"
     for library in factcheck cabi; do
         rt staticlib "$library" >/dev/null 2>&1 || stop "the static library was not built: run 'rt staticlib $library' to see why."
+    done
+}
+
+# Proves and builds the programs, in target/bin.
+build_programs() {
+    local program
+    say "proving and building the programs 'replay' and 'compare' (some ten minutes the first time, at once after that)"
+    for program in replay compare; do
+        rt check "$program" >/dev/null 2>&1 || stop "$program was not proved: run 'rt check $program' to see why."
     done
 }

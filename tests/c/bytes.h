@@ -16,7 +16,8 @@ static void word(struct bytes *b, uint32_t v) {
 /* The plant of the proving table: action 0 has one allocation of resource 0, offset 0, length 10. */
 static struct bytes proving_plant(void) {
     static const uint32_t words[] = {1, 0, 2, 1, 10, 20, 1, 0, 0, 10, 2, 0, 4, 2, 5, 5, 0, 8, 0, 0, 0, 1, 1, 0, 0, 40, 68, 96, 3};
-    struct bytes b = {.len = 0};
+    struct bytes b;
+    b.len = 0;
     for (size_t k = 0; k < sizeof words / sizeof words[0]; k++)
         word(&b, words[k]);
     memcpy(b.at + b.len, "PLNT", 4);

@@ -7,7 +7,8 @@
 #include <string.h>
 
 static struct bytes offer(uint32_t known, uint32_t known_false, uint32_t goal, uint32_t goal_false, uint32_t steps) {
-    struct bytes b = {.len = 0};
+    struct bytes b;
+    b.len = 0;
     word(&b, 0);
     word(&b, known);
     word(&b, known_false);
@@ -22,8 +23,8 @@ static int checks = 0;
 
 /* The two ranges are lent as exact heap blocks, so that a tool that watches the heap sees a read past either end. */
 static void expect(const char *what, struct bytes p, struct bytes o, uint32_t want) {
-    uint8_t *plant = malloc(p.len ? p.len : 1);
-    uint8_t *offered = malloc(o.len ? o.len : 1);
+    uint8_t *plant = (uint8_t *)malloc(p.len ? p.len : 1);
+    uint8_t *offered = (uint8_t *)malloc(o.len ? o.len : 1);
     memcpy(plant, p.at, p.len);
     memcpy(offered, o.at, o.len);
     uint32_t got = sf_fact_check(plant, p.len, offered, o.len);

@@ -1,5 +1,15 @@
 //! The calls of include/snipefeather.h, for the benchmark and for soak.
 
+/// A row of the report: four words.
+#[repr(C)]
+#[derive(Clone, Copy, Default)]
+pub struct SfRow {
+    pub job: u32,
+    pub point: u32,
+    pub earliest: u32,
+    pub latest: u32,
+}
+
 extern "C" {
     pub fn sf_fact_check(
         plant: *const u8,
@@ -21,5 +31,6 @@ extern "C" {
     pub fn sf_send(board: *mut u32, board_len: usize, place: u32) -> u32;
     pub fn sf_clock(board: *mut u32, board_len: usize, c: u32) -> u32;
     pub fn sf_retire(board: *mut u32, board_len: usize) -> u32;
-    pub fn sf_report(board: *const u32, board_len: usize, rows: *mut u32, rows_len: usize) -> u32;
+    pub fn sf_report(board: *const u32, board_len: usize, rows: *mut SfRow, rows_len: usize)
+        -> u32;
 }

@@ -4,11 +4,9 @@
 mod c_calls;
 
 use crate::forms::{Call, Form};
-use c_calls::{sf_clock, sf_fact_check, sf_fresh, sf_plan, sf_report, sf_retire, sf_send};
+use c_calls::{sf_clock, sf_fact_check, sf_fresh, sf_plan, sf_report, sf_retire, sf_send, SfRow};
 use independent::board::{BOARD_WORDS, MOST_POINTS};
 use std::hint::black_box;
-
-const ROW_WORDS: usize = 4;
 
 pub fn fact_check(plant: &[u8], offer: &[u8]) -> u32 {
     let (plant, plant_len) = (plant.as_ptr(), plant.len());
@@ -45,7 +43,7 @@ impl Ours {
     }
 
     fn report(&self) -> u32 {
-        let mut rows = [0; ROW_WORDS * MOST_POINTS];
+        let mut rows = [SfRow::default(); MOST_POINTS];
         let (board, list) = (self.0.as_ptr(), rows.as_mut_ptr());
         // SAFETY: each pointer is lent with the length of its live array; the board is only read.
         let number = unsafe { sf_report(board, BOARD_WORDS, list, rows.len()) };

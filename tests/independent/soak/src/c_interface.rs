@@ -3,9 +3,9 @@
 #[path = "../../c_calls.rs"]
 mod c_calls;
 
-use c_calls::{sf_clock, sf_fact_check, sf_fresh, sf_plan, sf_report, sf_retire, sf_send};
+use c_calls::{sf_clock, sf_fact_check, sf_fresh, sf_plan, sf_report, sf_retire, sf_send, SfRow};
 use independent::log::Item;
-use soak::product::{Lent, Product};
+use soak::product::{Lent, Product, ROW_WORDS};
 use std::ptr::{null, null_mut};
 
 pub struct CInterface;
@@ -16,9 +16,10 @@ impl Product for CInterface {
         let (plant, plant_len) = lent_bytes(lent.plant);
         let (offer, offer_len) = lent_bytes(lent.offer);
         let (cause, cause_len) = lent_words(lent.cause);
-        let (rows, rows_len) = lent_words(lent.rows);
+        let (rows, rows_len) = lent_rows(lent.rows);
         // SAFETY: each pointer is lent with the length of a live slice of its own, or is NULL with
-        // length 0; those that the call writes through come from slices that may be written.
+        // length 0; those that the call writes through come from slices that may be written. A row
+        // is four words, and aligned as they are.
         unsafe {
             match item {
                 Item::Fact(_) => sf_fact_check(plant, plant_len, offer, offer_len),
@@ -38,6 +39,11 @@ impl Product for CInterface {
 
 fn lent_words(words: Option<&mut [u32]>) -> (*mut u32, usize) {
     words.map_or((null_mut(), 0), |words| (words.as_mut_ptr(), words.len()))
+}
+
+fn lent_rows(words: Option<&mut [u32]>) -> (*mut SfRow, usize) {
+    let (words, len) = lent_words(words);
+    (words.cast(), len / ROW_WORDS)
 }
 
 fn lent_bytes(bytes: Option<&[u8]>) -> (*const u8, usize) {

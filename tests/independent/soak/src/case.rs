@@ -12,8 +12,6 @@ pub struct Lending {
     pub other_length: Option<usize>,
     /// The words there is room for in `cause`.
     pub cause_room: usize,
-    /// Words past the last whole row.
-    pub odd_words: usize,
     /// Whether empty ranges are NULL.
     pub null: bool,
 }
@@ -25,7 +23,6 @@ impl Lending {
         Lending {
             other_length: rng.one_in(16).then_some(other),
             cause_room: rng.pick(&[1, 1, 1, 1, 0, 2]),
-            odd_words: rng.pick(&[0, 0, 0, 1, 2, 3]),
             null: rng.one_in(2),
         }
     }
@@ -38,11 +35,8 @@ impl fmt::Display for Lending {
             write!(f, "first on a board of {length} words; ")?;
         }
         let empty = if self.null { "NULL" } else { "not NULL" };
-        let [cause, odd] = [self.cause_room, self.odd_words];
-        write!(
-            f,
-            "cause of {cause} words, {odd} words past the rows, empty ranges {empty}"
-        )
+        let cause = self.cause_room;
+        write!(f, "cause of {cause} words, empty ranges {empty}")
     }
 }
 

@@ -1,7 +1,7 @@
 //! Lends the product the ranges of a call and compares what it makes of them.
 
 use crate::case::{Lending, Step};
-use crate::product::{Lent, Product};
+use crate::product::{Lent, Product, ROW_WORDS};
 use crate::range::{Range, PATTERN};
 use crate::second::{write_rows, Answer};
 use crate::tally::Tally;
@@ -18,15 +18,6 @@ pub struct Wanted {
 }
 
 impl Wanted {
-    /// On a board of another length nothing at all is written.
-    pub fn of_another_length() -> Self {
-        Wanted {
-            number: 6,
-            cause: None,
-            rows: Vec::new(),
-        }
-    }
-
     /// Only plan has a cause.
     pub fn of(item: &Item, answer: Answer) -> Self {
         let refusal = answer.as_ref().err();
@@ -46,9 +37,9 @@ impl Wanted {
         cause
     }
 
-    fn rows_range(&self, item: &Item, lending: &Lending, guard: usize) -> Range<u32> {
+    fn rows_range(&self, item: &Item, guard: usize) -> Range<u32> {
         let room = match item {
-            Item::Report(room) => 4 * *room as usize + lending.odd_words,
+            Item::Report(room) => ROW_WORDS * *room as usize,
             _ => 0,
         };
         let mut rows = Range::guarded(&vec![PATTERN; room], guard);
@@ -76,7 +67,7 @@ impl<P: Product> Lender<'_, P> {
         let Step { item, lending } = step;
         let mut offer = Range::bare(offer_of(item));
         let mut cause = wanted.cause_range(lending, self.guard);
-        let mut rows = wanted.rows_range(item, lending, self.guard);
+        let mut rows = wanted.rows_range(item, self.guard);
         let null = lending.null;
         let lent = Lent {
             board: board.lend(null),

@@ -2,12 +2,16 @@
 
 use independent::log::Item;
 
+/// The words of a row of the report.
+pub const ROW_WORDS: usize = 4;
+
 /// The ranges lent to a call, of which it takes those that it has. `None` is NULL with length 0.
 pub struct Lent<'a> {
     pub board: Option<&'a mut [u32]>,
     pub plant: Option<&'a [u8]>,
     pub offer: Option<&'a [u8]>,
     pub cause: Option<&'a mut [u32]>,
+    /// So many words for each row.
     pub rows: Option<&'a mut [u32]>,
 }
 

@@ -1,17 +1,26 @@
 //! The second implementation's answers, on a board lent as the C interface has it.
 
+use crate::product::ROW_WORDS;
 use independent::board::{
     fast, Definition, Row, BOARD_WORDS, HEADER_WORDS, JOB_WORDS, LINE_WORDS, MOST_JOBS, RESOURCES,
 };
 use independent::log::Item;
 use independent::replay::{self, Session};
-use independent::{fact_check, Refusal, Ruling};
+use independent::{check_plant, fact_check, Refusal, Ruling};
 
 /// The rows of a report, of other calls none; or the refusal.
 pub type Answer = Result<Vec<Row>, Refusal>;
 
-/// By the fast form. The words of a refused call stay, also those of a refused fresh.
+/// By the fast form. The words of a refused call stay, but for those of a refused fresh. Words that
+/// are not as many as a board has are no sound board: a call stops where it finds that.
 pub fn answer(item: &Item, plant: &[u8], words: &mut [u32]) -> Answer {
+    let has_board = !matches!(item, Item::Fact(_));
+    if has_board && words.len() != BOARD_WORDS {
+        if matches!(item, Item::Plan(_)) {
+            without_rows(check_plant(plant))?;
+        }
+        return Err(Refusal::Unsound);
+    }
     match item {
         Item::Fact(offer) => return without_rows(fact_check(plant, offer)),
         Item::Report(room) => return report(words, *room),
@@ -42,11 +51,12 @@ fn without_rows(ruling: Ruling) -> Answer {
     }
 }
 
+/// A refused fresh leaves the board of zeros.
 fn fresh(words: &mut [u32], horizon: u32, lead: u32) -> Result<(), Refusal> {
     let mut board = [0; BOARD_WORDS];
-    fast::fresh(&mut board, horizon, lead)?;
+    let ruling = fast::fresh(&mut board, horizon, lead);
     words.copy_from_slice(&board);
-    Ok(())
+    ruling
 }
 
 fn report(words: &mut [u32], room: u32) -> Answer {
@@ -56,9 +66,9 @@ fn report(words: &mut [u32], room: u32) -> Answer {
     Ok(rows)
 }
 
-/// Rows as C has them, four words each.
+/// Rows as C has them, in words.
 pub fn write_rows(words: &mut [u32], rows: &[Row]) {
-    for (words, row) in words.chunks_exact_mut(4).zip(rows) {
+    for (words, row) in words.chunks_exact_mut(ROW_WORDS).zip(rows) {
         words.copy_from_slice(&[row.job, row.point, row.earliest, row.latest]);
     }
 }

@@ -2,7 +2,6 @@
 
 use crate::product::{Lent, Product};
 use crate::second::{answer, write_rows};
-use independent::board::BOARD_WORDS;
 use independent::log::Item;
 
 /// Answers as it should.
@@ -10,9 +9,7 @@ pub struct Right;
 
 impl Product for Right {
     fn ask(&self, item: &Item, lent: Lent) -> u32 {
-        let Some(board) = lent.board.filter(|board| board.len() == BOARD_WORDS) else {
-            return 6;
-        };
+        let board = lent.board.unwrap_or_default();
         let answer = answer(item, lent.plant.unwrap_or_default(), board);
         let refusal = answer.as_ref().err();
         let (number, value) = refusal.map_or((0, None), |refusal| refusal.number_and_value());

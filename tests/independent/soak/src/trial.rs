@@ -9,7 +9,6 @@ use crate::tally::Tally;
 use independent::board::{BoardCalls, Definition, BOARD_WORDS};
 use independent::log::Item;
 use independent::replay::Session;
-use independent::Refusal;
 
 /// What first differs.
 #[derive(Debug)]
@@ -77,14 +76,9 @@ impl<'a, P: Product> Trial<'a, P> {
         let item = &step.item;
         let answer = answer(item, self.lender.plant.wanted(), self.board.wanted());
         self.compare_with_definition(item, &answer)?;
-        let refused_fresh = answer == Err(Refusal::HorizonOrLead);
         let wanted = Wanted::of(item, answer);
         self.lender.compare(step, &mut self.board, &wanted)?;
         self.lender.tally.numbers[wanted.number as usize] += 1;
-        if refused_fresh {
-            // C leaves the words; a log goes on with the board of a refused fresh.
-            self.board.set(&[0; BOARD_WORDS]);
-        }
         Ok(())
     }
 
@@ -97,7 +91,8 @@ impl<'a, P: Product> Trial<'a, P> {
         let mut words = self.board.wanted().to_vec();
         words.resize(length, 0);
         let mut board = Range::guarded(&words, self.lender.guard);
-        let wanted = Wanted::of_another_length();
+        let answer = answer(&step.item, self.lender.plant.wanted(), board.wanted());
+        let wanted = Wanted::of(&step.item, answer);
         let compared = self.lender.compare(step, &mut board, &wanted);
         compared.map_err(|told| format!("on a board of {length} words: {told}"))?;
         self.lender.tally.other_lengths += 1;
