@@ -25,8 +25,8 @@ use Rattle.part_lines.specs.declared.Line.{Line}
 use Rattle.part_lines.specs.Held.{lineOf, linesOf, noLine}
 use Rattle.part_lines.specs.Asked.{AllShort, Lined}
 use Rattle.part_lines.proofs.Lists.{held-next}
-use Rattle.part_boardwords.specs.Layout.{usesIn, lineStart, useStart}
-use Rattle.part_boardwords.specs.Words.{Words, useRead, useAt, usesRead, lineRead, lineAt, linesRead}
+use Rattle.part_boardwords.specs.Layout.{lineStart}
+use Rattle.part_boardwords.specs.Words.{Words, useAt, usesRead, lineRead, lineAt, linesRead}
 use Rattle.part_boardwords.proofs.Boards.{line-of, line-count, line-held}
 use Rattle.base_lists.proofs.Build.{build-length, build-at}
 use Rattle.spec_stn.specs.Table.{bias, implied}
@@ -118,31 +118,38 @@ module _ (l : List ℕ) (c x d : ℕ) (rs : List Rule) where
 
 -- ---- uses read one by one
 
-module _ (w : Words) (at k : ℕ) (few : w at ≤ mostUses) (h : k < w at) (u : Use) (is : u ≡ useRead w (useStart (at + usesIn) k)) where
-  use-at : getD (usesRead w (at + usesIn)) k noUse ≡ u
-  use-at = build-at (useAt w (at + usesIn)) mostUses k noUse (omega arith) ∙ sym is
+module _ (w : Words) (at k : ℕ) (few : w at ≤ mostUses) (h : k < w at) (u : Use) (is : u ≡ useAt w at k) where
+  use-at : getD (usesRead w at) k noUse ≡ u
+  use-at = build-at (useAt w at) mostUses k noUse (omega arith) ∙ sym is
 
   pub read-at : getD (lineOf (lineRead w at)) k noUse ≡ u
-  read-at = getD-take (w at) (usesRead w (at + usesIn)) k noUse h ∙ use-at
+  read-at = getD-take (w at) (usesRead w at) k noUse h ∙ use-at
 
   pub read-next : drop k (lineOf (lineRead w at)) ≡ u ∷ drop (k + 1) (lineOf (lineRead w at))
   read-next =
-      held-next (w at) (usesRead w (at + usesIn)) k noUse h (omega (arith, build-length (useAt w (at + usesIn)) mostUses))
+      held-next (w at) (usesRead w at) k noUse h (omega (arith, build-length (useAt w at) mostUses))
       ∙ ap (λ (a : Use). a ∷ drop (k + 1) (lineOf (lineRead w at))) use-at
 
 -- ---- lines of a board's words
 
-pub lined-read : (w : Words) (k : ℕ) → k < resources → Lined (linesRead w) → (w (lineStart k) ≤ mostUses) × AllShort (lineOf (lineAt w k))
-lined-read w k h l = (omega (arith, line-count w k h, l .counts k), subst AllShort (line-held w k h) (l .short k))
+-- the line whose first word is number i
+abbrev LineShort : Words → ℕ → Type 0
+LineShort w i = (w i ≤ mostUses) × AllShort (lineOf (lineRead w i))
+
+pub lined-read : (w : Words) (k at : ℕ) → k < resources → at ≡ lineStart k → Lined (linesRead w) → LineShort w at
+lined-read w k at h start l =
+    let there : LineShort w (lineStart k) = (omega (arith, line-count w k h, l .counts k), subst AllShort (line-held w k h) (l .short k)) in
+    subst (LineShort w) (sym start) there
 
 module _ (l : List ℕ) (s : Settings) (c f m : ℕ) (w : Words) (k : ℕ) (ok : Bool)
     (is : (ok && linesEnd l s c f m (drop k (linesRead w))) ≡ linesEnd l s c f m (linesRead w)) where
   pub read-line-next :
-      (test : Bool) → k < resources → test ≡ usesEnd l s c f m (lineOf (lineAt w k))
+      (test : Bool) (at : ℕ) → k < resources → at ≡ lineStart k → test ≡ usesEnd l s c f m (lineOf (lineRead w at))
       → (ok && test && linesEnd l s c f m (drop (k + 1) (linesRead w))) ≡ linesEnd l s c f m (linesRead w)
-  read-line-next test h t =
+  read-line-next test at h start t =
       lines-next l s c f m (linesRead w) k ok is test (omega (arith, build-length (lineAt w) resources))
-      (t ∙ ap (λ (q : Line). usesEnd l s c f m (lineOf q)) (sym (line-of w k h)))
+      (t ∙ ap (λ (i : ℕ). usesEnd l s c f m (lineOf (lineRead w i))) start
+      ∙ ap (λ (q : Line). usesEnd l s c f m (lineOf q)) (sym (line-of w k h)))
 
   pub read-line-end : resources ≤ k → ok ≡ linesEnd l s c f m (linesRead w)
   read-line-end h = lines-end l s c f m (linesRead w) k ok is (omega (arith, build-length (lineAt w) resources))

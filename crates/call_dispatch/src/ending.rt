@@ -1,7 +1,7 @@
 // Whether points that leave, the m points from f on, are over by the clock in every timetable: the last of them, and each use of them. The
 // rules that say so are not collected: each is looked up in the table where it would be made.
-use part_boardwords::layout;
-use part_boardwords::read_use;
+use part_boardwords::line_start;
+use part_boardwords::use_at;
 use part_gaps::BIAS;
 use part_lines::end_of;
 use part_lines::goes;
@@ -19,7 +19,7 @@ ghost use Rattle.part_lines.specs.Held.{lineOf, linesOf};
 ghost use Rattle.part_lines.specs.Asked.{Short, AllShort, Lined};
 ghost use Rattle.spec_stn.specs.Table.{implied};
 ghost use Rattle.part_gaps.specs.Cells.{tableOf};
-ghost use Rattle.part_boardwords.specs.Layout.{lineSize, cellsAt};
+ghost use Rattle.part_boardwords.specs.Layout.{cellsAt, lineEnd};
 ghost use Rattle.part_boardwords.specs.Words.{wordIn, lineRead, linesRead};
 ghost use Rattle.call_dispatch.specs.Ending.{InReach};
 
@@ -45,13 +45,14 @@ fn line_ends(
     w: &[u32],
     at: usize,
 ) -> bool
-    requires { ⌜ InReach (now t) clock f m × (at + lineSize ≤ length (now w)) × (wordIn (now w) at ≤ mostUses) × AllShort (lineOf (lineRead (wordIn (now w)) at)) ⌝ }
+    requires { ⌜ InReach (now t) clock f m × (lineEnd at ≤ length (now w)) × (wordIn (now w) at ≤ mostUses)
+        × AllShort (lineOf (lineRead (wordIn (now w)) at)) ⌝ }
     ensures { λ r. ⌜ r ≡ implied (tableOf (now (t .entry))) (endsBy settings clock f m (lineOf (lineRead (wordIn (now (w .entry))) at))) ⌝ }
 {
     let count = w[at] as usize;
     let mut ok = true;
     for k in 0..count {
-        let u = read_use(w, at + layout::USES_IN + layout::USE_SIZE * k);
+        let u = use_at(w, at, k);
         ok = ok & use_ends(t, settings, clock, f, m, u);
     }
     ok
@@ -64,16 +65,7 @@ fn lines_end(t: &[u32], settings: Settings, clock: u32, f: u32, m: u32, w: &[u32
 {
     let mut ok = true;
     for k in 0..limits::RESOURCES {
-        ok = ok
-            & line_ends(
-                t,
-                settings,
-                clock,
-                f,
-                m,
-                w,
-                layout::LINES_AT + layout::LINE_SIZE * k,
-            );
+        ok = ok & line_ends(t, settings, clock, f, m, w, line_start(k));
     }
     ok
 }
@@ -81,7 +73,8 @@ fn lines_end(t: &[u32], settings: Settings, clock: u32, f: u32, m: u32, w: &[u32
 // The last point of those that leave, with the tray gap, and each use of them end by the clock.
 pub fn are_over(t: &[u32], settings: Settings, clock: u32, f: u32, m: u32, w: &[u32]) -> bool
     requires { ⌜ InReach (now t) clock f m × (1 ≤ m) × (cellsAt ≤ length (now w)) × Lined (linesRead (wordIn (now w))) ⌝ }
-    ensures { λ r. ⌜ r ≡ implied (tableOf (now (t .entry))) (overBy (f + m - 1) (trayGap settings) clock ∷ allEndBy settings clock f m (linesOf (linesRead (wordIn (now (w .entry)))))) ⌝ }
+    ensures { λ r. ⌜ r ≡ implied (tableOf (now (t .entry))) (overBy (f + m - 1) (trayGap settings) clock
+        ∷ allEndBy settings clock f m (linesOf (linesRead (wordIn (now (w .entry)))))) ⌝ }
 {
     let last = (f + m - 1) as usize;
     if BIAS + clock < t[last] + tray_gap(settings) {

@@ -115,7 +115,7 @@ fn next(w: &[u32], at: Cursor) -> Cursor
 
 // Row k, which stands at the cursor: that of the point numbered k + 1.
 fn row_at(w: &[u32], at: Cursor, k: usize) -> Row
-    requires { ⌜ (length (now w) ≡ boardSize) × (k < 64) ⌝ }
+    requires { ⌜ (length (now w) ≡ boardSize) × (k < mostPoints) ⌝ }
     ensures { λ r. ⌜ r ≡ rowOf (tableOf (cellsRead (wordIn (now (w .entry))))) (at .place) (at .point) (k + 1) ⌝ }
 {
     let t = &w[layout::CELLS_AT..];
@@ -168,10 +168,10 @@ fn store(w: &[u32], n: usize, rows: [Row; limits::MOST_POINTS]) -> [Row; limits:
 fn within(room: u32) -> usize
     ensures { λ r. ⌜ r ≡ min room mostPoints ⌝ }
 {
-    if room < 64 {
+    if room < limits::MOST_POINTS as u32 {
         return room as usize;
     }
-    64
+    limits::MOST_POINTS
 }
 
 // The report into a list of `room` rows, all 64 where there is room for more, that stands in front of an array: the array comes back. No list is

@@ -5,18 +5,20 @@ use log_text::least;
 use log_text::put;
 use log_text::put_number;
 use part_boardwords::BOARD_WORDS;
+use part_boardwords::cell_at;
 use part_boardwords::job_at;
 use part_boardwords::layout;
-use part_boardwords::read_use;
+use part_boardwords::line_start;
+use part_boardwords::use_at;
 use part_gaps::BIAS;
 use spec_plain::Job;
 use spec_plain::Use;
 use spec_plain::limits;
-ghost use Prim.Native.Nat.{_+_, _≤_, _<_};
+ghost use Prim.Native.Nat.{_≤_, _<_};
 ghost use mathlib.Core.Path.{_≡_};
 ghost use lib.ListN.{length};
 ghost use Rattle.spec_plain.specs.Limits.{side, mostJobs, mostPoints, mostUses};
-ghost use Rattle.part_boardwords.specs.Layout.{lineSize, boardSize};
+ghost use Rattle.part_boardwords.specs.Layout.{boardSize, lineEnd};
 
 // Puts a blank and the number.
 pub fn put_next(out: &mut [u8], at: usize, n: u32) -> usize {
@@ -78,7 +80,7 @@ fn put_row(out: &mut [u8], at: usize, w: &[u32], i: usize, n: usize) -> usize
 {
     let mut to = put(out, at, b"t");
     for j in 0..n {
-        to = put_gap(out, to, w[layout::CELLS_AT + (i * limits::SIDE + j)]);
+        to = put_gap(out, to, cell_at(w, i, j));
     }
     put(out, to, b"\n")
 }
@@ -128,20 +130,14 @@ fn put_lines(out: &mut [u8], at: usize, w: &[u32]) -> usize
 {
     let mut to = at;
     for k in 0..limits::RESOURCES {
-        to = put_line(
-            out,
-            to,
-            k as u32,
-            w,
-            layout::LINES_AT + layout::LINE_SIZE * k,
-        );
+        to = put_line(out, to, k as u32, w, line_start(k));
     }
     to
 }
 
 // Puts `l RESOURCE N` and N times `POINT OFFSET LENGTH`, of the line at word `from`; nothing where the line is empty.
 fn put_line(out: &mut [u8], at: usize, resource: u32, w: &[u32], from: usize) -> usize
-    requires { ⌜ from + lineSize ≤ length (now w) ⌝ }
+    requires { ⌜ lineEnd from ≤ length (now w) ⌝ }
 {
     let n = within(w[from], limits::MOST_USES);
     if n == 0 {
@@ -155,11 +151,11 @@ fn put_line(out: &mut [u8], at: usize, resource: u32, w: &[u32], from: usize) ->
 }
 
 fn put_uses(out: &mut [u8], at: usize, w: &[u32], from: usize, n: usize) -> usize
-    requires { ⌜ (from + lineSize ≤ length (now w)) × (n ≤ mostUses) ⌝ }
+    requires { ⌜ (lineEnd from ≤ length (now w)) × (n ≤ mostUses) ⌝ }
 {
     let mut to = at;
     for k in 0..n {
-        let u = read_use(w, from + layout::USES_IN + layout::USE_SIZE * k);
+        let u = use_at(w, from, k);
         to = put_use(out, to, u);
     }
     to

@@ -34,12 +34,13 @@ use Rattle.base_lists.proofs.All.{all-at, all-get, all-map}
 use Rattle.base_lists.proofs.AllBelow.{both-true, allBelow-to}
 use Rattle.spec_stn.specs.Table.{Table, earliest}
 use Rattle.base_lists.proofs.Build.{build-at}
-use Rattle.part_boardwords.specs.Layout.{countAt, usesIn, lineStart}
+use Rattle.part_boardwords.specs.Layout.{countAt, lineStart}
 use Rattle.part_boardwords.specs.Words.{Words, jobAt, heldJobs, useAt, usesRead, lineAt, boardRead}
 use Rattle.part_boardwords.proofs.Boards.{held-jobs, held-job}
 use Rattle.part_sound.specs.Sound.{Sound, SizedJob, SizedUse, pointsOf}
 use Rattle.log_chart.specs.declared.scale.Scale.{Scale}
-use Rattle.log_chart.specs.Chart.{OnTable, AllOnTable, beginOf, columnOf, covers, endTime, firstFit, firstTime, fits, glyphOf, jobOf, lastEnd, lastTime, leftOf, linesEnd, markAt, rightOf, scaleOf, scaled, widthOf, widths}
+use Rattle.log_chart.specs.Chart.{OnTable, AllOnTable, beginOf, columnOf, covers, endTime, firstFit, firstTime, fits, glyphOf, jobOf}
+use Rattle.log_chart.specs.Chart.{lastEnd, lastTime, leftOf, linesEnd, markAt, rightOf, scaleOf, scaled, widthOf, widths}
 
 -- ---- whose a point is
 
@@ -184,7 +185,7 @@ job-some w few all k j lt e =
     let least : 2 ≤ jobAt w k .points = rw (held-job w few k lt) at (sized .least) in
     omega (arith, least, ap (λ (i : Job). i .points) e)
 
-pub use-low : {w : Words} {at k : ℕ} {u : Use} → OnTable w at → k < w at → u ≡ useAt w (at + usesIn) k → u .point ≤ mostPoints
+pub use-low : {w : Words} {at k : ℕ} {u : Use} → OnTable w at → k < w at → u ≡ useAt w at k → u .point ≤ mostPoints
 use-low {k = k} {u = u} on h e = omega (arith, on .points k h, ap (λ (x : Use). x .point) e)
 
 pub on-table : (w : Words) → Sound (boardRead w) → AllOnTable w
@@ -193,10 +194,11 @@ on-table w s k lt =
     let few : w (lineStart k) ≤ mostUses = omega (arith, s .lines k lt, ap (λ (l : Line). l .count) line) in
     let live : All (SizedUse (pointsOf (boardRead w))) (lineOf (lineAt w k)) =
     subst (λ (l : Line). All (SizedUse (pointsOf (boardRead w))) (lineOf l)) line (s .uses k lt) in
-    let small = all-map (SizedUse (pointsOf (boardRead w))) (λ u. u .point ≤ mostPoints) (λ u z. omega (arith, z .live, s .points)) (lineOf (lineAt w k)) live in
+    let small =
+    all-map (SizedUse (pointsOf (boardRead w))) (λ u. u .point ≤ mostPoints) (λ u z. omega (arith, z .live, s .points)) (lineOf (lineAt w k)) live in
     record {
       count = few;
       points = λ i h.
-          rw (getD-take (w (lineStart k)) (usesRead w (lineStart k + usesIn)) i noUse h, build-at (useAt w (lineStart k + usesIn)) mostUses i noUse (omega arith)) at
+          rw (getD-take (w (lineStart k)) (usesRead w (lineStart k)) i noUse h, build-at (useAt w (lineStart k)) mostUses i noUse (omega arith)) at
           (all-get (λ u. u .point ≤ mostPoints) (lineOf (lineAt w k)) i noUse small (omega arith));
     }

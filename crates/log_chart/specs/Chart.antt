@@ -23,7 +23,7 @@ use Rattle.spec_plain.specs.Plain.{noUse}
 use Rattle.part_lines.specs.declared.Line.{Line}
 use Rattle.part_lines.specs.Held.{lineOf}
 use Rattle.spec_stn.specs.Table.{Table, earliest}
-use Rattle.part_boardwords.specs.Layout.{usesIn, lineStart}
+use Rattle.part_boardwords.specs.Layout.{lineStart}
 use Rattle.part_boardwords.specs.Words.{Words, useAt}
 use Rattle.log_chart.specs.declared.scale.Scale.{Scale}
 
@@ -114,7 +114,7 @@ columnOf s t = min ((t - s .begin) / s .column) 79
 
 pub record OnTable (w : Words) (at : ℕ) : Type 0 where
   pub count : w at ≤ mostUses
-  pub points : (k : ℕ) → k < w at → useAt w (at + usesIn) k .point ≤ mostPoints
+  pub points : (k : ℕ) → k < w at → useAt w at k .point ≤ mostPoints
 
 abbrev pub AllOnTable : Words → Type 0
 AllOnTable w = (k : ℕ) → k < resources → OnTable w (lineStart k)

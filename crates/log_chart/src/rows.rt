@@ -7,12 +7,13 @@ use log_text::least;
 use log_text::put;
 use log_text::put_number;
 use part_boardwords::layout;
+use part_boardwords::line_start;
 use spec_plain::limits;
 ghost use mathlib.Core.Path.{_≡_};
 ghost use Prim.Native.Nat.{_+_, _-_, _*_, _≤_, _<_};
 ghost use lib.ListN.{length};
 ghost use Rattle.spec_plain.specs.Limits.{mostJobs, resources, cellCount};
-ghost use Rattle.part_boardwords.specs.Layout.{countAt, cellsAt, lineSize, lineStart};
+ghost use Rattle.part_boardwords.specs.Layout.{countAt, cellsAt, lineStart, lineEnd};
 ghost use Rattle.part_boardwords.specs.Words.{wordIn};
 ghost use Rattle.log_chart.specs.Chart.{AllOnTable, OnTable, Scaled, columnOf};
 
@@ -58,7 +59,8 @@ fn column_of(scale: Scale, time: u64) -> usize
 // ---- the picture
 
 pub fn put_picture(out: &mut [u8], at: usize, t: &[u32], w: &[u32], scale: Scale) -> usize
-    requires { ⌜ (length (now t) ≡ cellCount) × (cellsAt ≤ length (now w)) × (wordIn (now w) countAt ≤ mostJobs) × AllOnTable (wordIn (now w)) × Scaled scale ⌝ }
+    requires { ⌜ (length (now t) ≡ cellCount) × (cellsAt ≤ length (now w)) × (wordIn (now w) countAt ≤ mostJobs) × AllOnTable (wordIn (now w))
+        × Scaled scale ⌝ }
 {
     let axis = put_axis(out, at, scale);
     let marked = put_clock(out, axis, scale, w[layout::CLOCK_AT]);
@@ -129,7 +131,8 @@ fn put_clock(out: &mut [u8], at: usize, scale: Scale, clock: u32) -> usize
 // ---- the rows of resources
 
 fn put_lines(out: &mut [u8], at: usize, t: &[u32], w: &[u32], scale: Scale) -> usize
-    requires { ⌜ (length (now t) ≡ cellCount) × (cellsAt ≤ length (now w)) × (wordIn (now w) countAt ≤ mostJobs) × AllOnTable (wordIn (now w)) × Scaled scale ⌝ }
+    requires { ⌜ (length (now t) ≡ cellCount) × (cellsAt ≤ length (now w)) × (wordIn (now w) countAt ≤ mostJobs) × AllOnTable (wordIn (now w))
+        × Scaled scale ⌝ }
 {
     let mut to = at;
     for k in 0..limits::RESOURCES {
@@ -143,7 +146,7 @@ fn put_line(out: &mut [u8], at: usize, t: &[u32], w: &[u32], resource: usize, sc
     requires { ⌜ (length (now t) ≡ cellCount) × (cellsAt ≤ length (now w)) × (wordIn (now w) countAt ≤ mostJobs) × Scaled scale ⌝ }
     requires { ⌜ (resource < resources) × OnTable (wordIn (now w)) (lineStart resource) ⌝ }
 {
-    let line = layout::LINES_AT + layout::LINE_SIZE * resource;
+    let line = line_start(resource);
     if w[line] == 0 {
         return at;
     }
@@ -157,7 +160,7 @@ fn put_line(out: &mut [u8], at: usize, t: &[u32], w: &[u32], resource: usize, sc
 // Puts the marks of the columns up to the one in which the last use ends of the line at word `line`.
 fn put_marks(out: &mut [u8], at: usize, t: &[u32], w: &[u32], line: usize, scale: Scale) -> usize
     requires { ⌜ (length (now t) ≡ cellCount) × (cellsAt ≤ length (now w)) × (wordIn (now w) countAt ≤ mostJobs) × Scaled scale ⌝ }
-    requires { ⌜ (line + lineSize ≤ length (now w)) × OnTable (wordIn (now w)) line ⌝ }
+    requires { ⌜ (lineEnd line ≤ length (now w)) × OnTable (wordIn (now w)) line ⌝ }
 {
     let n = columns_to(scale, last_end(t, w, line, 0));
     let mut to = at;

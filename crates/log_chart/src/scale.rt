@@ -1,8 +1,8 @@
 // Which times the picture shows, and how wide a column is: the narrowest round width with which it has at most 80 columns.
 use crate::uses::end;
 use crate::uses::wide;
-use part_boardwords::layout;
-use part_boardwords::read_use;
+use part_boardwords::line_start;
+use part_boardwords::use_at;
 use part_gaps::earliest;
 use spec_plain::limits;
 ghost use mathlib.Core.Path.{_≡_};
@@ -11,7 +11,7 @@ ghost use lib.ListN.{getD, length};
 ghost use Rattle.spec_plain.specs.Limits.{cellCount, mostPoints};
 ghost use Rattle.part_lines.specs.Held.{lineOf};
 ghost use Rattle.part_gaps.specs.Cells.{tableOf};
-ghost use Rattle.part_boardwords.specs.Layout.{lineSize, cellsAt};
+ghost use Rattle.part_boardwords.specs.Layout.{cellsAt, lineEnd};
 ghost use Rattle.part_boardwords.specs.Words.{wordIn, lineRead, linesRead};
 ghost use Rattle.log_chart.specs.Chart.{AllOnTable, OnTable, Scaled, beginOf, firstTime, fits, lastEnd, lastTime, linesEnd, scaleOf, widthOf, widths};
 
@@ -85,13 +85,13 @@ fn last_time(t: &[u32], n: usize, time: u64) -> u64
 
 // The largest of a time and of the ends of the uses of the line at word `at`.
 pub fn last_end(t: &[u32], w: &[u32], at: usize, time: u64) -> u64
-    requires { ⌜ (length (now t) ≡ cellCount) × (at + lineSize ≤ length (now w)) × OnTable (wordIn (now w)) at ⌝ }
+    requires { ⌜ (length (now t) ≡ cellCount) × (lineEnd at ≤ length (now w)) × OnTable (wordIn (now w)) at ⌝ }
     ensures { λ r. ⌜ r ≡ lastEnd (tableOf (now (t .entry))) (lineOf (lineRead (wordIn (now (w .entry))) at)) time ⌝ }
 {
     let count = w[at] as usize;
     let mut last = time;
     for k in 0..count {
-        let u = read_use(w, at + layout::USES_IN + layout::USE_SIZE * k);
+        let u = use_at(w, at, k);
         last = larger(last, end(t, u));
     }
     last
@@ -103,7 +103,7 @@ fn lines_end(t: &[u32], w: &[u32], time: u64) -> u64
 {
     let mut last = time;
     for k in 0..limits::RESOURCES {
-        last = last_end(t, w, layout::LINES_AT + layout::LINE_SIZE * k, last);
+        last = last_end(t, w, line_start(k), last);
     }
     last
 }

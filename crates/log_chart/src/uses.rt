@@ -1,7 +1,7 @@
 // When a use is under way at its earliest, and whose it is.
 use part_boardwords::job_at;
 use part_boardwords::layout;
-use part_boardwords::read_use;
+use part_boardwords::use_at;
 use part_gaps::earliest;
 use spec_plain::Use;
 ghost use mathlib.Core.Path.{_≡_};
@@ -11,7 +11,7 @@ ghost use lib.ListN.{length};
 ghost use Rattle.spec_plain.specs.Limits.{mostJobs, mostPoints, cellCount};
 ghost use Rattle.part_lines.specs.Held.{jobsOf, lineOf};
 ghost use Rattle.part_gaps.specs.Cells.{tableOf};
-ghost use Rattle.part_boardwords.specs.Layout.{countAt, lineSize, cellsAt};
+ghost use Rattle.part_boardwords.specs.Layout.{countAt, cellsAt, lineEnd};
 ghost use Rattle.part_boardwords.specs.Words.{wordIn, heldJobs, lineRead};
 ghost use Rattle.log_chart.specs.Chart.{OnTable, covers, endTime, glyphOf, jobOf, markAt, startTime};
 
@@ -86,13 +86,14 @@ fn mark_over(t: &[u32], w: &[u32], u: Use, from: u64, to: u64, mark: u8) -> u8
 // are wide two uses can share one: it shows the later in the line.
 pub fn mark_at(t: &[u32], w: &[u32], at: usize, from: u64, to: u64) -> u8
     requires { ⌜ (length (now t) ≡ cellCount) × (cellsAt ≤ length (now w)) × (wordIn (now w) countAt ≤ mostJobs) ⌝ }
-    requires { ⌜ (at + lineSize ≤ length (now w)) × OnTable (wordIn (now w)) at ⌝ }
-    ensures { λ r. ⌜ r ≡ markAt (tableOf (now (t .entry))) (jobsOf (heldJobs (wordIn (now (w .entry))))) (lineOf (lineRead (wordIn (now (w .entry))) at)) from to 32 ⌝ }
+    requires { ⌜ (lineEnd at ≤ length (now w)) × OnTable (wordIn (now w)) at ⌝ }
+    ensures { λ r. ⌜ r ≡ markAt (tableOf (now (t .entry))) (jobsOf (heldJobs (wordIn (now (w .entry)))))
+        (lineOf (lineRead (wordIn (now (w .entry))) at)) from to 32 ⌝ }
 {
     let count = w[at] as usize;
     let mut mark = b' ';
     for k in 0..count {
-        let u = read_use(w, at + layout::USES_IN + layout::USE_SIZE * k);
+        let u = use_at(w, at, k);
         mark = mark_over(t, w, u, from, to, mark);
     }
     mark

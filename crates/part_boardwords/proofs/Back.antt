@@ -15,7 +15,8 @@ use Rattle.spec_plain.specs.Plain.{noUse}
 use Rattle.part_lines.specs.declared.Line.{Line}
 use Rattle.part_lines.specs.Held.{noJob, noLine}
 use Rattle.part_boardwords.specs.Board.{Board, Arrays}
-use Rattle.part_boardwords.specs.Layout.{clockAt, countAt, headSize, sentIn, jobSize, useSize, usesIn, lineSize, jobsSize, linesSize, jobsAt, linesAt, cellsAt, jobStart, markAt, lineStart, useStart}
+use Rattle.part_boardwords.specs.Layout.{clockAt, countAt, headSize, sentIn, jobSize, useSize, lineSize, jobsSize, linesSize}
+use Rattle.part_boardwords.specs.Layout.{jobsAt, linesAt, cellsAt, jobStart, markAt, lineStart, useStart}
 use Rattle.part_boardwords.specs.Words.{wordIn, boardIn, jobAt, useAt, lineAt, linesRead, cellAt}
 use Rattle.part_boardwords.specs.Codec.{jobWords, useWords, lineWords, jobsWords, linesWords, cellsWords, headWords, frameWords, wordsOf}
 use Rattle.base_lists.proofs.Build.{past, build-same, build-at, build-back}
@@ -71,9 +72,9 @@ module _ (b : Board) where
 
   use-word :
       (k m i : ℕ) → k < resources → m < mostUses → i < useSize
-      → wordIn (wordsOf b) (useStart (lineStart k + usesIn) m + i) ≡ getD (useWords (getD (getD (b .lines) k noLine .uses) m noUse)) i 0
+      → wordIn (wordsOf b) (useStart (lineStart k) m + i) ≡ getD (useWords (getD (getD (b .lines) k noLine .uses) m noUse)) i 0
   use-word k m i h l s =
-      line-word k (suc (useSize * m + i)) (useStart (lineStart k + usesIn) m + i) h (omega arith) (omega arith)
+      line-word k (suc (useSize * m + i)) (useStart (lineStart k) m + i) h (omega arith) (omega arith)
       ∙ joined-at (λ j. useWords (getD (getD (b .lines) k noLine .uses) j noUse)) useSize mostUses m i (λ j. refl) l s
 
   cell-word : (k : ℕ) → k < cellCount → wordIn (wordsOf b) (cellsAt + k) ≡ getD (b .gaps) k 0
@@ -93,8 +94,8 @@ module _ (b : Board) where
   line-back k h len =
       same-line (getD (b .lines) k noLine)
       (line-word k 0 (lineStart k) h (omega arith) (omega arith))
-      (build-same (useAt (wordIn (wordsOf b)) (lineStart k + usesIn)) (λ m. getD (getD (b .lines) k noLine .uses) m noUse) mostUses
-      (λ m l. use-written (wordIn (wordsOf b)) (useStart (lineStart k + usesIn) m) (getD (getD (b .lines) k noLine .uses) m noUse) (λ i s. use-word k m i h l s))
+      (build-same (useAt (wordIn (wordsOf b)) (lineStart k)) (λ m. getD (getD (b .lines) k noLine .uses) m noUse) mostUses
+      (λ m l. use-written (wordIn (wordsOf b)) (useStart (lineStart k) m) (getD (getD (b .lines) k noLine .uses) m noUse) (λ i s. use-word k m i h l s))
       ∙ build-back (getD (b .lines) k noLine .uses) mostUses noUse len)
 
   pub lines-back :

@@ -16,7 +16,7 @@ use Rattle.part_lines.specs.declared.Line.{Line}
 use Rattle.part_lines.specs.Held.{jobsOf, lineOf, linesOf, noJob, noLine}
 use Rattle.part_lines.proofs.Lists.{length-held, held-next, held-over}
 use Rattle.base_lists.proofs.AllBelow.{allBelow-same}
-use Rattle.part_boardwords.specs.Layout.{countAt, usesIn, lineSize, linesAt, cellsAt, jobStart, markAt, lineStart, useStart}
+use Rattle.part_boardwords.specs.Layout.{countAt, lineSize, linesAt, cellsAt, jobStart, markAt, lineStart, useStart}
 use Rattle.part_boardwords.specs.Words.{Words, lineRead, jobAt, jobsRead, heldJobs, useAt, lineAt, linesRead, allMarked, isMarked}
 use Rattle.part_boardwords.proofs.Parts.{job-by, use-by}
 use Rattle.base_lists.proofs.Build.{build-length, build-same, build-at}
@@ -52,21 +52,21 @@ line-held w r h = List·getD-map lineOf (linesRead w) r noLine ∙ ap lineOf (li
 
 module _ (w : Words) (at : ℕ) where
   pub held-size : w at ≤ 32 → length (lineOf (lineRead w at)) ≡ w at
-  held-size h = length-held (w at) (lineRead w at .uses) (omega (arith, build-length (useAt w (at + usesIn)) 32))
+  held-size h = length-held (w at) (lineRead w at .uses) (omega (arith, build-length (useAt w at) 32))
 
-  pub held-use : (k : ℕ) → k < w at → k < 32 → getD (lineOf (lineRead w at)) k noUse ≡ useAt w (at + usesIn) k
-  held-use k h room = getD-take (w at) (lineRead w at .uses) k noUse h ∙ build-at (useAt w (at + usesIn)) 32 k noUse room
+  pub held-use : (k : ℕ) → k < w at → k < 32 → getD (lineOf (lineRead w at)) k noUse ≡ useAt w at k
+  held-use k h room = getD-take (w at) (lineRead w at .uses) k noUse h ∙ build-at (useAt w at) 32 k noUse room
 
 -- ---- the same words
 
 module _ (v w : Words) where
   pub same-line : (at : ℕ) → ((k : ℕ) → at ≤ k → k < at + lineSize → v k ≡ w k) → lineRead v at ≡ lineRead w at
   same-line at same =
-      rw (same at (omega arith) (omega arith), build-same (useAt v (at + usesIn)) (useAt w (at + usesIn)) 32 one) refl
+      rw (same at (omega arith) (omega arith), build-same (useAt v at) (useAt w at) 32 one) refl
     where
-      one : (m : ℕ) → m < 32 → useAt v (at + usesIn) m ≡ useAt w (at + usesIn) m
+      one : (m : ℕ) → m < 32 → useAt v at m ≡ useAt w at m
       one m l =
-          let to = useStart (at + usesIn) m in
+          let to = useStart at m in
           use-by v w to to (λ i h. same (to + i) (omega arith) (omega arith))
 
   pub same-lines : ((k : ℕ) → linesAt ≤ k → k < cellsAt → v k ≡ w k) → linesRead v ≡ linesRead w
@@ -81,4 +81,7 @@ module _ (v w : Words) (same : (k : ℕ) → k < linesAt → v k ≡ w k) where
 
   pub same-jobs : heldJobs v ≡ heldJobs w
   same-jobs =
-      rw (same countAt (omega arith), build-same (jobAt v) (jobAt w) 16 (λ m h. job-by v w (jobStart m) (jobStart m) (λ i l. same (jobStart m + i) (omega arith)))) refl
+      rw (same countAt (omega arith), build-same (jobAt v) (jobAt w) 16 one) refl
+    where
+      one : (m : ℕ) → m < 16 → jobAt v m ≡ jobAt w m
+      one m h = job-by v w (jobStart m) (jobStart m) (λ i l. same (jobStart m + i) (omega arith))

@@ -18,8 +18,10 @@ use Rattle.spec_plain.specs.Plain.{noUse}
 use Rattle.part_lines.specs.Held.{noJob, noLine}
 use Rattle.base_lists.proofs.AllBelow.{allBelow-of}
 use Rattle.base_lists.specs.Loops.{build}
-use Rattle.part_boardwords.specs.Layout.{countAt, headSize, jobSize, useSize, usesIn, usesSize, lineSize, jobsSize, linesSize, jobsAt, linesAt, cellsAt, boardSize, jobStart, markAt, lineStart, useStart}
-use Rattle.part_boardwords.specs.Words.{Words, wordIn, boardIn, jobAt, jobsRead, useAt, usesRead, lineAt, linesRead, cellAt, cellsRead, isMarked, allMarked, boardRead}
+use Rattle.part_boardwords.specs.Layout.{countAt, headSize, jobSize, useSize, usesIn, usesSize, lineSize, jobsSize, linesSize}
+use Rattle.part_boardwords.specs.Layout.{jobsAt, linesAt, cellsAt, boardSize, jobStart, markAt, lineStart, useStart}
+use Rattle.part_boardwords.specs.Words.{Words, wordIn, boardIn, jobAt, jobsRead, useAt, usesRead, lineAt, linesRead}
+use Rattle.part_boardwords.specs.Words.{cellAt, cellsRead, isMarked, allMarked, boardRead}
 use Rattle.part_boardwords.specs.Codec.{jobWords, useWords, usesWords, lineWords, jobsWords, linesWords, cellsWords, headWords, frameWords, wordsOf}
 use Rattle.base_lists.proofs.Build.{build-same, build-at, build-length, build-back, build-add}
 use Rattle.part_boardwords.proofs.Blocks.{joined-same, joined-blocks}
@@ -39,13 +41,13 @@ by-words : (l : List ℕ) (f : ℕ → ℕ) (n : ℕ) → length l ≡ n → ((i
 by-words l f n long same = ext-getD 0 l (build f n) (long ∙ sym (build-length f n)) (λ i h. same i (omega arith) ∙ sym (build-at f n i 0 (omega arith)))
 
 module _ (w : Words) where
-  pub uses-read : (p : ℕ) → usesWords (usesRead w p) ≡ build (λ j. w (p + j)) usesSize
-  uses-read p =
-      joined-same (λ k. useWords (getD (usesRead w p) k noUse)) (λ k. build (λ i. w (p + (useSize * k + i))) useSize) mostUses
-      (λ k h. ap useWords (build-at (useAt w p) mostUses k noUse h)
-      ∙ by-words (useWords (useAt w p k)) (λ i. w (p + (useSize * k + i))) useSize refl
-      (λ i l. use-word w (useStart p k) i l ∙ ap w {x = useStart p k + i} {y = p + (useSize * k + i)} (omega arith)))
-      ∙ joined-blocks (λ j. w (p + j)) useSize mostUses
+  pub uses-read : (at : ℕ) → usesWords (usesRead w at) ≡ build (λ j. w (at + usesIn + j)) usesSize
+  uses-read at =
+      joined-same (λ k. useWords (getD (usesRead w at) k noUse)) (λ k. build (λ i. w (at + usesIn + (useSize * k + i))) useSize) mostUses
+      (λ k h. ap useWords (build-at (useAt w at) mostUses k noUse h)
+      ∙ by-words (useWords (useAt w at k)) (λ i. w (at + usesIn + (useSize * k + i))) useSize refl
+      (λ i l. use-word w (useStart at k) i l ∙ ap w {x = useStart at k + i} {y = at + usesIn + (useSize * k + i)} (omega arith)))
+      ∙ joined-blocks (λ j. w (at + usesIn + j)) useSize mostUses
 
   pub jobs-read : ((k : ℕ) → k < mostJobs → w (markAt k) ≤ 1) → jobsWords (jobsRead w) ≡ build (λ j. w (jobsAt + j)) jobsSize
   jobs-read marks =
@@ -63,7 +65,7 @@ module _ (w : Words) where
   line-read k =
       ap₂ (λ (a : ℕ) (l : List ℕ). a ∷ l)
       (ap w {x = lineStart k} {y = linesAt + (lineSize * k + 0)} (omega arith))
-      (uses-read (lineStart k + usesIn)
+      (uses-read (lineStart k)
       ∙ build-same (λ j. w (lineStart k + usesIn + j)) (λ j. w (linesAt + (lineSize * k + (1 + j)))) usesSize (λ j l. ap w (omega arith)))
       ∙ ap (λ (l : List ℕ). l ++ build (λ j. w (linesAt + (lineSize * k + (1 + j)))) usesSize) (sym (build-one (λ i. w (linesAt + (lineSize * k + i)))))
       ∙ sym (build-add (λ i. w (linesAt + (lineSize * k + i))) 1 usesSize)

@@ -12,6 +12,7 @@ use mathlib.Core.List.{List, [], _++_, append-nil}
 use native.Mathlib.Omega.{arith}
 use lib.ListN.{length, getD, take, drop, length-append, length-drop, length-take, take-append-drop, drop-of-length-le, List·getD-append}
 use lib.Seq.{take-all, ext-getD, getD-drop, getD-take}
+use Rattle.spec_plain.specs.Limits.{cellCount}
 use Rattle.part_boardwords.specs.Board.{Board}
 use Rattle.part_boardwords.specs.Layout.{cellsAt, boardSize}
 use Rattle.part_boardwords.specs.Words.{wordIn, cellAt, cellsRead}
@@ -31,7 +32,8 @@ module _ (w : List ℕ) (len : length w ≡ boardSize) where
 
   with-is : (t : List ℕ) → wordsWith w t ≡ take cellsAt w ++ t
   with-is t =
-      let none : drop (length w - cellsAt) (drop cellsAt w) ≡ [] = drop-of-length-le (drop cellsAt w) {i = length w - cellsAt} (omega (arith, length-drop cellsAt w)) in
+      let none : drop (length w - cellsAt) (drop cellsAt w) ≡ [] =
+      drop-of-length-le (drop cellsAt w) {i = length w - cellsAt} (omega (arith, length-drop cellsAt w)) in
       ap (λ (l : List ℕ). take cellsAt w ++ l) (ap (λ (l : List ℕ). t ++ l) none ∙ append-nil t)
 
   front : length (take cellsAt w) ≡ cellsAt
@@ -40,14 +42,14 @@ module _ (w : List ℕ) (len : length w ≡ boardSize) where
   pub cells-lent : lentTable w ≡ cellsRead (wordIn w)
   cells-lent =
       table-is
-      ∙ ext-getD 0 (drop cellsAt w) (cellsRead (wordIn w)) (omega (arith, length-drop cellsAt w, build-length (cellAt (wordIn w)) 4225))
-      (λ k h. getD-drop cellsAt w k 0 ∙ sym (build-at (cellAt (wordIn w)) 4225 k 0 (omega (arith, length-drop cellsAt w))))
+      ∙ ext-getD 0 (drop cellsAt w) (cellsRead (wordIn w)) (omega (arith, length-drop cellsAt w, build-length (cellAt (wordIn w)) cellCount))
+      (λ k h. getD-drop cellsAt w k 0 ∙ sym (build-at (cellAt (wordIn w)) cellCount k 0 (omega (arith, length-drop cellsAt w))))
 
-  pub length-lent : length (lentTable w) ≡ 4225
+  pub length-lent : length (lentTable w) ≡ cellCount
   length-lent = ap length table-is ∙ omega (arith, length-drop cellsAt w)
 
   module _ (t : List ℕ) where
-    cells-many : length (wordsWith w t) ≡ boardSize → length t ≡ 4225
+    cells-many : length (wordsWith w t) ≡ boardSize → length t ≡ cellCount
     cells-many size = omega (arith, size, ap length (with-is t), length-append (take cellsAt w) t, front)
 
     pub with-word : (k : ℕ) → k < cellsAt → wordIn (wordsWith w t) k ≡ wordIn w k
@@ -60,7 +62,7 @@ module _ (w : List ℕ) (len : length w ≡ boardSize) where
     written b e size =
         ap (λ (l : List ℕ). put l 0 (frameWords b)) (with-is t)
         ∙ (put-front (take cellsAt w) t (frameWords b) (front ∙ sym (length-frame b))
-        ∙ ap (λ (l : List ℕ). frameWords b ++ l) (sym e ∙ sym (build-back (b .gaps) 4225 0 (ap length e ∙ cells-many size))))
+        ∙ ap (λ (l : List ℕ). frameWords b ++ l) (sym e ∙ sym (build-back (b .gaps) cellCount 0 (ap length e ∙ cells-many size))))
 
     pub unwritten : t ≡ lentTable w → wordsWith w t ≡ w
     unwritten e = with-is t ∙ (ap (λ (l : List ℕ). take cellsAt w ++ l) (e ∙ table-is) ∙ take-append-drop cellsAt w)

@@ -8,3 +8,4 @@ pub mod Back
 pub mod Lent
 pub mod Written
 pub mod Heads
+pub mod Moved

@@ -8,7 +8,8 @@
 --   jobsAt, linesAt, cellsAt   the first word of the jobs, of the lines, of the cells;  jobsSize, linesSize: how many the first two have
 --   boardSize, boardBytes  the words of a board, and its bytes
 --   jobStart k, markAt k, lineStart k   the first word of job k, its mark, the first word of line k
---   useStart at k          the first word of use k, of uses that begin at word `at`
+--   useStart at k          the first word of use k of the line that begins at word `at`;  lineEnd at: the word behind that line
+-- Other crates name a place by these, and add no sizes; their laws compute with them.
 use Prim.Native.Nat.{ℕ, _+_, _*_}
 use Rattle.spec_plain.specs.Limits.{mostJobs, resources, mostUses, cellCount}
 
@@ -84,5 +85,8 @@ markAt k = jobStart k + sentIn
 abbrev pub lineStart : ℕ → ℕ
 lineStart k = linesAt + lineSize * k
 
+abbrev pub lineEnd : ℕ → ℕ
+lineEnd at = at + lineSize
+
 abbrev pub useStart : ℕ → ℕ → ℕ
-useStart at k = at + useSize * k
+useStart at k = at + usesIn + useSize * k

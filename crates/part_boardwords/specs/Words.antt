@@ -3,9 +3,10 @@
 -- Words are a function from a word's number, so that a part of the board is that part of any words.
 --   wordIn l k         word k of the list l; 0 past its end
 --   zeros              words that are all 0
+--   downByJob l k      word k of the list l moved down by a job: the one a job further on;  upByUse l k: moved up by a use
 --   settingsRead w     what the board was made with
 --   jobRead, useRead, lineRead w at   the job, use, line whose first word is number `at`
---   jobAt, lineAt, cellAt w k   job k, line k, cell k;  useAt w at k: use k of the line whose uses begin at word `at`
+--   jobAt, lineAt, cellAt w k   job k, line k, cell k;  useAt w at k: use k of the line whose first word is number `at`
 --   jobsRead w         all of them;  usesRead, linesRead, cellsRead;  heldJobs w: the jobs with their count
 --   linesIn l          what the lines of a list of words hold
 --   isMarked c k m     of c jobs, job k is past the end or its mark m is 0 or 1;  allMarked w: every job is
@@ -14,7 +15,7 @@
 --   boardIn l          the board of a list of words
 --   lentBoard l        the board that a call on the words l rules on: words that are not as many as a board has stand for the board of zeros,
 --                      which isn't sound
-use Prim.Native.Nat.{ℕ, _+_}
+use Prim.Native.Nat.{ℕ, _+_, _-_}
 use mathlib.Core.Bool.{Bool, cond, _||_}
 use mathlib.Core.List.{List}
 use lib.ListN.{length, getD}
@@ -28,7 +29,8 @@ use Rattle.part_lines.specs.declared.Line.{Line}
 use Rattle.part_lines.specs.Held.{linesOf}
 use Rattle.base_lists.specs.Loops.{build, allBelow}
 use Rattle.part_boardwords.specs.Board.{Board}
-use Rattle.part_boardwords.specs.Layout.{horizonAt, leadAt, clockAt, countAt, batchIn, sentIn, offsetIn, lengthIn, usesIn, cellsAt, boardSize, jobStart, markAt, lineStart, useStart}
+use Rattle.part_boardwords.specs.Layout.{horizonAt, leadAt, clockAt, countAt, batchIn, sentIn, offsetIn, lengthIn, jobSize, useSize}
+use Rattle.part_boardwords.specs.Layout.{cellsAt, boardSize, jobStart, markAt, lineStart, useStart}
 
 abbrev pub Words : Type 0
 Words = ℕ → ℕ
@@ -38,6 +40,12 @@ wordIn l k = getD l k 0
 
 abbrev pub zeros : Words
 zeros k = 0
+
+abbrev pub downByJob : List ℕ → Words
+downByJob l k = wordIn l (k + jobSize)
+
+abbrev pub upByUse : List ℕ → Words
+upByUse l k = wordIn l (k - useSize)
 
 abbrev pub settingsRead : Words → Settings
 settingsRead w = record { horizon = w horizonAt; lead = w leadAt }
@@ -65,7 +73,7 @@ abbrev pub usesRead : Words → ℕ → List Use
 usesRead w at = build (useAt w at) mostUses
 
 abbrev pub lineRead : Words → ℕ → Line
-lineRead w at = record { count = w at; uses = usesRead w (at + usesIn) }
+lineRead w at = record { count = w at; uses = usesRead w at }
 
 abbrev pub lineAt : Words → ℕ → Line
 lineAt w k = lineRead w (lineStart k)

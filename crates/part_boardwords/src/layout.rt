@@ -1,4 +1,5 @@
-// Where the words of a board stand, for the code: the numbers of specs/Layout.
+// Where the words of a board stand, for the code: the numbers of specs/Layout. No other crate adds or multiplies them: what stands at a number is read
+// by `job_at`, `use_at` and `cell_at` (reading), written by what is in writing and moving, and a line begins at its `line_start` (places).
 use spec_plain::limits;
 
 pub const HORIZON_AT: usize = 0;

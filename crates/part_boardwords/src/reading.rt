@@ -7,13 +7,13 @@ use spec_plain::Settings;
 use spec_plain::Use;
 use spec_plain::limits;
 ghost use mathlib.Core.Path.{_≡_};
-ghost use Prim.Native.Nat.{_+_, _≤_, _<_};
+ghost use Prim.Native.Nat.{_+_, _*_, _≤_, _<_};
 ghost use lib.ListN.{length};
-ghost use Rattle.spec_plain.specs.Limits.{mostJobs};
-ghost use Rattle.part_boardwords.specs.Layout.{jobSize, useSize, cellsAt};
-ghost use Rattle.part_boardwords.specs.Words.{wordIn, settingsRead, jobRead, jobAt, jobsRead, useRead, isMarked, allMarked, heldJobs};
+ghost use Rattle.spec_plain.specs.Limits.{mostJobs, mostUses, side};
+ghost use Rattle.part_boardwords.specs.Layout.{jobSize, useSize, cellsAt, boardSize, lineEnd};
+ghost use Rattle.part_boardwords.specs.Words.{wordIn, settingsRead, jobRead, jobAt, jobsRead, useRead, useAt, cellAt, isMarked, allMarked, heldJobs};
 
-// ---- settings, jobs and uses, each from the word where it begins
+// ---- settings, jobs, uses and cells
 
 fn word(s: &[u32], k: usize) -> u32
     requires { ⌜ k < length (now s) ⌝ }
@@ -74,7 +74,7 @@ pub fn read_jobs(s: &[u32]) -> Jobs
     }
 }
 
-pub fn read_use(s: &[u32], at: usize) -> Use
+fn read_use(s: &[u32], at: usize) -> Use
     requires { ⌜ at + useSize ≤ length (now s) ⌝ }
     ensures { λ r. ⌜ r ≡ useRead (wordIn (now (s .entry))) at ⌝ }
 {
@@ -83,6 +83,22 @@ pub fn read_use(s: &[u32], at: usize) -> Use
         offset: word(s, at + layout::OFFSET_IN),
         length: word(s, at + layout::LENGTH_IN),
     }
+}
+
+// Use k of the line that begins at word `at`, in use or not.
+pub fn use_at(s: &[u32], at: usize, k: usize) -> Use
+    requires { ⌜ (lineEnd at ≤ length (now s)) × (k < mostUses) ⌝ }
+    ensures { λ r. ⌜ r ≡ useAt (wordIn (now (s .entry))) at k ⌝ }
+{
+    read_use(s, at + layout::USES_IN + layout::USE_SIZE * k)
+}
+
+// The cell in row i and column j of the gap table, as stored.
+pub fn cell_at(s: &[u32], i: usize, j: usize) -> u32
+    requires { ⌜ (boardSize ≤ length (now s)) × (i < side) × (j < side) ⌝ }
+    ensures { λ r. ⌜ r ≡ cellAt (wordIn (now (s .entry))) (i * side + j) ⌝ }
+{
+    word(s, layout::CELLS_AT + (i * limits::SIDE + j))
 }
 
 // ---- marks

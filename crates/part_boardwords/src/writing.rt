@@ -1,22 +1,15 @@
-// The parts of a board written as their words, by the definition in specs/Codec; and words cleared.
+// Jobs and uses written by their number, by the definition in specs/Codec; places not in use cleared.
+use crate::layout;
 use spec_plain::Job;
 use spec_plain::Use;
 ghost use mathlib.Core.Path.{_≡_};
 ghost use mathlib.Core.List.{[], _∷_};
-ghost use Prim.Native.Nat.{_+_, _≤_};
-ghost use lib.ListN.{length};
+ghost use Prim.Native.Nat.{_+_, _≤_, _<_};
+ghost use lib.ListN.{length, set};
 ghost use Rattle.base_lists.specs.Loops.{rewritten};
-ghost use Rattle.part_boardwords.specs.Layout.{jobSize, useSize};
+ghost use Rattle.spec_plain.specs.Limits.{mostJobs, mostUses};
+ghost use Rattle.part_boardwords.specs.Layout.{linesAt, cellsAt, jobStart, markAt, lineEnd, useStart};
 ghost use Rattle.part_boardwords.specs.Codec.{markOf, jobWords, useWords, put};
-
-fn mark(sent: bool) -> u32
-    ensures { λ r. ⌜ r ≡ markOf sent ⌝ }
-{
-    if sent {
-        return 1;
-    }
-    0
-}
 
 // Three words, from `at` on.
 fn put_three(w: &mut [u32], at: usize, a: u32, b: u32, c: u32)
@@ -28,20 +21,6 @@ fn put_three(w: &mut [u32], at: usize, a: u32, b: u32, c: u32)
     w[at + 2] = c;
 }
 
-pub fn put_job(w: &mut [u32], at: usize, job: Job)
-    requires { ⌜ at + jobSize ≤ length (now w) ⌝ }
-    ensures { λ _. ⌜ now (w .exit) ≡ put (now (w .entry)) at (jobWords job) ⌝ }
-{
-    put_three(w, at, job.points, job.batch, mark(job.sent));
-}
-
-pub fn put_use(w: &mut [u32], at: usize, u: Use)
-    requires { ⌜ at + useSize ≤ length (now w) ⌝ }
-    ensures { λ _. ⌜ now (w .exit) ≡ put (now (w .entry)) at (useWords u) ⌝ }
-{
-    put_three(w, at, u.point, u.offset, u.length);
-}
-
 // 0 in the words from `from` on and before `to`.
 pub fn clear(w: &mut [u32], from: usize, to: usize)
     requires { ⌜ (from ≤ to) × (to ≤ length (now w)) ⌝ }
@@ -50,4 +29,64 @@ pub fn clear(w: &mut [u32], from: usize, to: usize)
     for k in from..to {
         w[k] = 0;
     }
+}
+
+// ---- jobs
+
+fn mark(sent: bool) -> u32
+    ensures { λ r. ⌜ r ≡ markOf sent ⌝ }
+{
+    if sent {
+        return 1;
+    }
+    0
+}
+
+// Job k.
+pub fn put_job(w: &mut [u32], k: usize, job: Job)
+    requires { ⌜ (cellsAt ≤ length (now w)) × (k < mostJobs) ⌝ }
+    ensures { λ _. ⌜ now (w .exit) ≡ put (now (w .entry)) (jobStart k) (jobWords job) ⌝ }
+{
+    let at = layout::JOBS_AT + layout::JOB_SIZE * k;
+    put_three(w, at, job.points, job.batch, mark(job.sent));
+}
+
+// Job k marked as sent.
+pub fn put_sent(w: &mut [u32], k: usize)
+    requires { ⌜ (cellsAt ≤ length (now w)) × (k < mostJobs) ⌝ }
+    ensures { λ _. ⌜ now (w .exit) ≡ set (now (w .entry)) (markAt k) 1 ⌝ }
+{
+    w[layout::JOBS_AT + layout::JOB_SIZE * k + layout::SENT_IN] = 1;
+}
+
+// 0 in the places of the jobs from number n on.
+pub fn clear_jobs(w: &mut [u32], n: usize)
+    requires { ⌜ (cellsAt ≤ length (now w)) × (n ≤ mostJobs) ⌝ }
+    ensures { λ _. ⌜ now (w .exit) ≡ rewritten (λ k. 0) (now (w .entry)) (jobStart n) linesAt ⌝ }
+{
+    let end = layout::JOBS_AT + layout::JOB_SIZE * n;
+    clear(w, end, layout::LINES_AT);
+}
+
+// ---- uses
+
+// Use k of the line that begins at word `at`.
+pub fn put_use(w: &mut [u32], at: usize, k: usize, u: Use)
+    requires { ⌜ (lineEnd at ≤ length (now w)) × (k < mostUses) ⌝ }
+    ensures { λ _. ⌜ now (w .exit) ≡ put (now (w .entry)) (useStart at k) (useWords u) ⌝ }
+{
+    let from = at + layout::USES_IN + layout::USE_SIZE * k;
+    put_three(w, from, u.point, u.offset, u.length);
+}
+
+// 0 in the places of the uses from number n on of the line that begins at word `at`.
+pub fn clear_uses(w: &mut [u32], at: usize, n: usize)
+    requires { ⌜ (lineEnd at ≤ length (now w)) × (n ≤ mostUses) ⌝ }
+    ensures { λ _. ⌜ now (w .exit) ≡ rewritten (λ k. 0) (now (w .entry)) (useStart at n) (lineEnd at) ⌝ }
+{
+    clear(
+        w,
+        at + layout::USES_IN + layout::USE_SIZE * n,
+        at + layout::LINE_SIZE,
+    );
 }

@@ -29,7 +29,7 @@ use Rattle.part_lines.proofs.Lists.{set-all}
 use Rattle.part_lines.proofs.LineLaws.{length-inserted}
 use Rattle.part_lines.proofs.Placing.{with-more, with-many, fits-more, fits-less}
 use Rattle.base_lists.proofs.Build.{build-none, build-more, build-length}
-use Rattle.part_boardwords.specs.Layout.{usesIn, lineStart}
+use Rattle.part_boardwords.specs.Layout.{lineStart}
 use Rattle.part_boardwords.specs.Words.{wordIn, useAt, lineAt, linesRead, linesIn}
 use Rattle.part_boardwords.proofs.Boards.{line-count, line-held, held-size, held-use}
 use Rattle.part_drafts.specs.Moment.{lineThen}
@@ -153,7 +153,7 @@ module _ (k : ℕ) {x : ℕ} {w puts : List ℕ} {r : ℕ} {u : Use} {at : ℕ} 
 
 pub look-words :
     {x : ℕ} {w puts : List ℕ} {r : ℕ} {u : Use} {at : ℕ} → Sought x w puts r u 0 at → r < resources → Lined (linesRead (wordIn w))
-    → (at < 32) × (u ≡ useAt (wordIn w) (lineStart r + usesIn) at)
+    → (at < 32) × (u ≡ useAt (wordIn w) (lineStart r) at)
 look-words {x = x} {w = w} {puts = puts} {r = r} {at = at} s h lined =
     let none = then-none x w puts r h in
     let few = words-few w lined r h in

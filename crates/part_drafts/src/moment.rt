@@ -12,8 +12,8 @@ ghost use Rattle.part_lines.specs.Placing.{AllFit};
 ghost use Rattle.part_boardwords.specs.Layout.{cellsAt};
 ghost use Rattle.part_boardwords.specs.Words.{wordIn, linesRead, linesIn};
 ghost use Rattle.part_drafts.specs.Moment.{lineThen};
-use part_boardwords::layout;
-use part_boardwords::read_use;
+use part_boardwords::line_start;
+use part_boardwords::use_at;
 use part_putwords::read_put;
 use part_putwords::used_from;
 use spec_plain::Use;
@@ -23,7 +23,7 @@ pub fn number_in(w: &[u32], puts: &[u32], k: usize, resource: u32) -> usize
     requires { ⌜ (cellsAt ≤ length (now w)) × Lined (linesRead (wordIn (now w))) × ReadPuts (now puts) k × (resource < resources) ⌝ }
     ensures { λ r. ⌜ ((x : ℕ) → r ≡ length (lineThen x (now (w .entry)) (now (puts .entry)) k resource)) ⌝ }
 {
-    let mut n = w[layout::LINES_AT + layout::LINE_SIZE * (resource as usize)] as usize;
+    let mut n = w[line_start(resource as usize)] as usize;
     for j in 0..k {
         let put = read_put(puts, j);
         if put.resource == resource {
@@ -55,11 +55,5 @@ pub fn use_in(w: &[u32], first: u32, puts: &[u32], k: usize, resource: u32, plac
             }
         }
     }
-    read_use(
-        w,
-        layout::LINES_AT
-            + layout::LINE_SIZE * (resource as usize)
-            + layout::USES_IN
-            + layout::USE_SIZE * at,
-    )
+    use_at(w, line_start(resource as usize), at)
 }

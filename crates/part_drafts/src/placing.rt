@@ -27,6 +27,7 @@ use part_putwords::read_put;
 use part_putwords::used_from;
 use spec_plain::Put;
 use spec_plain::Settings;
+use spec_plain::limits;
 
 // How far placing came: the rules so far, and why it stopped, if it did.
 pub struct Placing {
@@ -45,7 +46,8 @@ pub struct Turn {
 fn rule_before(w: &[u32], settings: Settings, first: u32, puts: &[u32], k: usize, put: Put) -> Maybe
     requires { ⌜ (cellsAt ≤ length (now w)) × Lined (linesRead (wordIn (now w))) × ReadPuts (now puts) k × Readable put × (first ≤ mostPoints) ⌝ }
     requires { ⌜ AllFit first (linesIn (now w)) (putsIn (now puts) k) × (put .place ≤ length (lineThen first (now w) (now puts) k (put .resource))) ⌝ }
-    ensures { λ r. ⌜ r ≡ maybeFrom (ruleBefore settings (lineThen first (now (w .entry)) (now (puts .entry)) k (put .resource)) (put .place) (usedFrom first put)) ⌝ }
+    ensures { λ r. ⌜ r ≡ maybeFrom (ruleBefore settings (lineThen first (now (w .entry)) (now (puts .entry)) k (put .resource)) (put .place)
+        (usedFrom first put)) ⌝ }
 {
     let place = put.place as usize;
     if place == 0 {
@@ -67,7 +69,8 @@ fn rule_after(
 ) -> Maybe
     requires { ⌜ (cellsAt ≤ length (now w)) × Lined (linesRead (wordIn (now w))) × ReadPuts (now puts) k × Readable put × (first ≤ mostPoints) ⌝ }
     requires { ⌜ AllFit first (linesIn (now w)) (putsIn (now puts) k) × (number ≡ length (lineThen first (now w) (now puts) k (put .resource))) ⌝ }
-    ensures { λ r. ⌜ r ≡ maybeFrom (ruleAfter settings (lineThen first (now (w .entry)) (now (puts .entry)) k (put .resource)) (put .place) (usedFrom first put)) ⌝ }
+    ensures { λ r. ⌜ r ≡ maybeFrom (ruleAfter settings (lineThen first (now (w .entry)) (now (puts .entry)) k (put .resource)) (put .place)
+        (usedFrom first put)) ⌝ }
 {
     let place = put.place as usize;
     if number <= place {
@@ -101,7 +104,7 @@ fn place_one(w: &[u32], settings: Settings, first: u32, puts: &[u32], k: usize) 
     if number < place {
         return stopped(Cause::Allocation(15, k as u32));
     }
-    if 32 <= number {
+    if limits::MOST_USES <= number {
         return stopped(Cause::Allocation(16, k as u32));
     }
     let before = rule_before(w, settings, first, puts, k, put);
@@ -123,8 +126,10 @@ pub fn place_all(
     many: usize,
     rules: Rules,
 ) -> Placing
-    requires { ⌜ (cellsAt ≤ length (now w)) × Lined (linesRead (wordIn (now w))) × ReadPuts (now puts) many × (first ≤ mostPoints) × Room (2 * mostPuts + 1) rules ⌝ }
-    ensures answer { λ r. ⌜ answered (r .ruling) (allWith first (linesIn (now (w .entry))) (putsIn (now (puts .entry)) many)) (rulesOf (r .rules)) ≡ placed settings first 0 (putsIn (now (puts .entry)) many) (linesIn (now (w .entry))) (rulesOf rules) ⌝ }
+    requires { ⌜ (cellsAt ≤ length (now w)) × Lined (linesRead (wordIn (now w))) × ReadPuts (now puts) many × (first ≤ mostPoints)
+        × Room (2 * mostPuts + 1) rules ⌝ }
+    ensures answer { λ r. ⌜ answered (r .ruling) (allWith first (linesIn (now (w .entry))) (putsIn (now (puts .entry)) many)) (rulesOf (r .rules))
+        ≡ placed settings first 0 (putsIn (now (puts .entry)) many) (linesIn (now (w .entry))) (rulesOf rules) ⌝ }
     ensures room { λ r. ⌜ Room 1 (r .rules) ⌝ }
 {
     let mut made = rules;

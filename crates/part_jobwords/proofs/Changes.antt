@@ -20,7 +20,7 @@ use Rattle.base_lists.specs.Loops.{rewritten}
 use Rattle.base_lists.proofs.Build.{past}
 use Rattle.base_lists.proofs.Rewritten.{rewritten-length, rewritten-in, rewritten-below, rewritten-from}
 use Rattle.part_boardwords.specs.Layout.{clockAt, countAt, headSize, sentIn, jobSize, jobsAt, linesAt, jobStart, markAt}
-use Rattle.part_boardwords.specs.Words.{wordIn, jobAt, heldJobs, allMarked}
+use Rattle.part_boardwords.specs.Words.{wordIn, downByJob, jobAt, heldJobs, allMarked}
 use Rattle.part_boardwords.specs.Codec.{jobWords, put}
 use Rattle.part_boardwords.proofs.Put.{put-length, put-below, put-from}
 use Rattle.part_boardwords.proofs.Parts.{mark-small, job-by, job-same, job-written, job-sent}
@@ -90,14 +90,16 @@ module _ (w y v : List ℕ) (c n : ℕ) (js : List Job) (j : Job) (room : linesA
 
 pub add-front :
     (w v x : List ℕ) (j : Job) → linesAt ≤ length w → wordIn w countAt < mostJobs → allMarked (wordIn w) ≡ true
-    → v ≡ put w (jobStart (wordIn w countAt)) (jobWords j) → x ≡ rewritten (λ k. 0) (set v countAt (wordIn w countAt + 1)) (jobStart (wordIn w countAt + 1)) linesAt
+    → v ≡ put w (jobStart (wordIn w countAt)) (jobWords j)
+    → x ≡ rewritten (λ k. 0) (set v countAt (wordIn w countAt + 1)) (jobStart (wordIn w countAt + 1)) linesAt
     → x ≡ fronted w (wordIn w clockAt) (jobsFrom (jobsOf (heldJobs (wordIn w)) ++ (j ∷ [])))
 add-front w v x j room less marks ev is =
     let n : ℕ = wordIn w countAt in
     let js : List Job = jobsOf (heldJobs (wordIn w)) in
     let many : n ≡ length js = sym (held-jobs (wordIn w) (omega arith)) in
     let own : Listed w w (wordIn w clockAt) js = listed-own w (omega arith) marks in
-    listed-front w (set v countAt (n + 1)) x (wordIn w clockAt) (n + 1) (js ++ (j ∷ [])) room (sym (total w w v (wordIn w clockAt) n js j room many less own ev))
+    listed-front w (set v countAt (n + 1)) x (wordIn w clockAt) (n + 1) (js ++ (j ∷ [])) room
+    (sym (total w w v (wordIn w clockAt) n js j room many less own ev))
     (add-listed w w v (wordIn w clockAt) n js j room many less own ev) is
 
 -- ---- jobs sent
@@ -180,7 +182,7 @@ sent-front w y x n room few t is =
 
 -- the words v are y with the n jobs behind the oldest moved down by one place, and then the count was stored
 module _ (w y v : List ℕ) (c n : ℕ) (js : List Job) (room : linesAt + jobSize ≤ length w) (many : n + 1 ≡ length js) (t : Listed w y c js)
-    (is : v ≡ rewritten (λ k. wordIn y (k + jobSize)) y jobsAt (jobStart n)) where
+    (is : v ≡ rewritten (downByJob y) y jobsAt (jobStart n)) where
   abbrev shorter : List ℕ
   shorter = set v countAt n
 
@@ -191,14 +193,14 @@ module _ (w y v : List ℕ) (c n : ℕ) (js : List Job) (room : linesAt + jobSiz
   moved k i lo hi e =
       getD-set-other v countAt k n 0 (λ q. omega arith)
       ∙ ap (λ (l : List ℕ). getD l k 0) is
-      ∙ rewritten-in (λ k. wordIn y (k + jobSize)) y jobsAt (jobStart n) k lo hi (omega (arith, t .size, t .few))
+      ∙ rewritten-in (downByJob y) y jobsAt (jobStart n) k lo hi (omega (arith, t .size, t .few))
       ∙ ap (wordIn y) (sym e)
 
   first : (k : ℕ) → k < headSize → (k ≡ countAt → ⊥) → wordIn shorter k ≡ wordIn y k
   first k h nn =
       getD-set-other v countAt k n 0 nn
       ∙ ap (λ (l : List ℕ). getD l k 0) is
-      ∙ rewritten-below (λ k. wordIn y (k + jobSize)) y jobsAt (jobStart n) k (omega arith)
+      ∙ rewritten-below (downByJob y) y jobsAt (jobStart n) k (omega arith)
 
   next-job : (m : ℕ) → m < n → jobAt (wordIn shorter) m ≡ jobAt (wordIn y) (1 + m)
   next-job m h =
@@ -207,7 +209,7 @@ module _ (w y v : List ℕ) (c n : ℕ) (js : List Job) (room : linesAt + jobSiz
 
   left-listed : Listed w shorter c (drop 1 js)
   left-listed =
-      let size : length v ≡ length w = ap length is ∙ rewritten-length (λ k. wordIn y (k + jobSize)) y jobsAt (jobStart n) ∙ t .size in
+      let size : length v ≡ length w = ap length is ∙ rewritten-length (downByJob y) y jobsAt (jobStart n) ∙ t .size in
       record {
         size = length-set v countAt n ∙ size;
         head = λ k h nc nn. first k h nn ∙ t .head k h nc nn;
@@ -224,13 +226,13 @@ module _ (w y v : List ℕ) (c n : ℕ) (js : List Job) (room : linesAt + jobSiz
         behind = λ k h.
             getD-set-other v countAt k n 0 (λ q. omega arith)
             ∙ ap (λ (l : List ℕ). getD l k 0) is
-            ∙ rewritten-from (λ k. wordIn y (k + jobSize)) y jobsAt (jobStart n) k (omega (arith, t .few))
+            ∙ rewritten-from (downByJob y) y jobsAt (jobStart n) k (omega (arith, t .few))
             ∙ t .behind k h;
       }
 
 pub left-front :
     (w v x : List ℕ) (n : ℕ) → linesAt + jobSize ≤ length w → n + 1 ≡ wordIn w countAt → wordIn w countAt ≤ mostJobs → allMarked (wordIn w) ≡ true
-    → v ≡ rewritten (λ k. wordIn w (k + jobSize)) w jobsAt (jobStart n) → x ≡ rewritten (λ k. 0) (set v countAt n) (jobStart n) linesAt
+    → v ≡ rewritten (downByJob w) w jobsAt (jobStart n) → x ≡ rewritten (λ k. 0) (set v countAt n) (jobStart n) linesAt
     → x ≡ fronted w (wordIn w clockAt) (jobsFrom (drop 1 (jobsOf (heldJobs (wordIn w)))))
 left-front w v x n room one few marks ev is =
     let js : List Job = jobsOf (heldJobs (wordIn w)) in

@@ -1,19 +1,20 @@
 // The jobs with one more, with the first of them sent, or without the oldest; or the same jobs at another clock. A job that stays where it is
 // is not written again: its mark is 0 or 1, and so its words are those that writing it would give. Every place not in use gets 0.
-use part_boardwords::clear;
+use part_boardwords::clear_jobs;
 use part_boardwords::layout;
+use part_boardwords::move_jobs_down;
 use part_boardwords::new_job;
 use part_boardwords::put_job;
+use part_boardwords::put_sent;
 ghost use mathlib.Core.Bool.{true};
 ghost use mathlib.Core.Path.{_≡_};
 ghost use mathlib.Core.List.{[], _∷_, _++_};
-ghost use Prim.Native.Nat.{_+_, _≤_, _<_};
+ghost use Prim.Native.Nat.{_≤_, _<_};
 ghost use lib.ListN.{length, drop};
 ghost use Rattle.spec_plain.specs.Limits.{mostJobs};
 ghost use Rattle.spec_plain.specs.Plain.{newJob, marked};
 ghost use Rattle.part_lines.specs.Held.{jobsOf, jobsFrom};
-ghost use Rattle.base_lists.specs.Loops.{rewritten};
-ghost use Rattle.part_boardwords.specs.Layout.{clockAt, countAt, jobSize, cellsAt};
+ghost use Rattle.part_boardwords.specs.Layout.{clockAt, countAt, cellsAt};
 ghost use Rattle.part_boardwords.specs.Words.{wordIn, heldJobs, allMarked};
 ghost use Rattle.part_jobwords.specs.Fronted.{fronted};
 ghost use Rattle.part_jobwords.specs.Listed.{Listed};
@@ -25,31 +26,20 @@ pub fn put_clock(w: &mut [u32], clock: u32)
 {
     let count = w[layout::COUNT_AT] as usize;
     w[layout::CLOCK_AT] = clock;
-    clear(
-        w,
-        layout::JOBS_AT + layout::JOB_SIZE * count,
-        layout::LINES_AT,
-    );
+    clear_jobs(w, count);
 }
 
 // The jobs with one more, the newest and unsent.
 pub fn add_job(w: &mut [u32], points: u32, batch: u32)
     requires { ⌜ (cellsAt ≤ length (now w)) × (wordIn (now w) countAt < mostJobs) × (allMarked (wordIn (now w)) ≡ true) ⌝ }
-    ensures { λ _. ⌜ now (w .exit) ≡ fronted (now (w .entry)) (wordIn (now (w .entry)) clockAt) (jobsFrom (jobsOf (heldJobs (wordIn (now (w .entry)))) ++ (newJob points batch ∷ []))) ⌝ }
+    ensures { λ _. ⌜ now (w .exit) ≡ fronted (now (w .entry)) (wordIn (now (w .entry)) clockAt)
+        (jobsFrom (jobsOf (heldJobs (wordIn (now (w .entry)))) ++ (newJob points batch ∷ []))) ⌝ }
 {
     let count = w[layout::COUNT_AT] as usize;
     let next = count + 1;
-    put_job(
-        w,
-        layout::JOBS_AT + layout::JOB_SIZE * count,
-        new_job(points, batch),
-    );
+    put_job(w, count, new_job(points, batch));
     w[layout::COUNT_AT] = next as u32;
-    clear(
-        w,
-        layout::JOBS_AT + layout::JOB_SIZE * next,
-        layout::LINES_AT,
-    );
+    clear_jobs(w, next);
 }
 
 // The mark of each of the first n jobs is 1.
@@ -58,42 +48,29 @@ fn set_marks(w: &mut [u32], n: usize)
     ensures { λ _. ⌜ Listed (now (w .entry)) (now (w .exit)) (wordIn (now (w .entry)) clockAt) (marked n (jobsOf (heldJobs (wordIn (now (w .entry)))))) ⌝ }
 {
     for k in 0..n {
-        w[layout::JOBS_AT + layout::JOB_SIZE * k + layout::SENT_IN] = 1;
+        put_sent(w, k);
     }
 }
 
 // The jobs with the first n of them sent.
 pub fn mark_sent(w: &mut [u32], n: usize)
     requires { ⌜ (cellsAt ≤ length (now w)) × (n ≤ wordIn (now w) countAt) × (wordIn (now w) countAt ≤ mostJobs) × (allMarked (wordIn (now w)) ≡ true) ⌝ }
-    ensures { λ _. ⌜ now (w .exit) ≡ fronted (now (w .entry)) (wordIn (now (w .entry)) clockAt) (jobsFrom (marked n (jobsOf (heldJobs (wordIn (now (w .entry))))))) ⌝ }
+    ensures { λ _. ⌜ now (w .exit) ≡ fronted (now (w .entry)) (wordIn (now (w .entry)) clockAt)
+        (jobsFrom (marked n (jobsOf (heldJobs (wordIn (now (w .entry))))))) ⌝ }
 {
     let count = w[layout::COUNT_AT] as usize;
     set_marks(w, n);
-    clear(
-        w,
-        layout::JOBS_AT + layout::JOB_SIZE * count,
-        layout::LINES_AT,
-    );
-}
-
-// Each word from `from` on and before `to` is the one a job further on, as it came: it is read before it is written over.
-fn move_down(w: &mut [u32], from: usize, to: usize)
-    requires { ⌜ (from ≤ to) × (to + jobSize ≤ length (now w)) ⌝ }
-    ensures { λ _. ⌜ now (w .exit) ≡ rewritten (λ k. wordIn (now (w .entry)) (k + jobSize)) (now (w .entry)) from to ⌝ }
-{
-    for k in from..to {
-        w[k] = w[k + layout::JOB_SIZE];
-    }
+    clear_jobs(w, count);
 }
 
 // The jobs without the oldest.
 pub fn drop_oldest(w: &mut [u32])
     requires { ⌜ (cellsAt ≤ length (now w)) × (1 ≤ wordIn (now w) countAt) × (wordIn (now w) countAt ≤ mostJobs) × (allMarked (wordIn (now w)) ≡ true) ⌝ }
-    ensures { λ _. ⌜ now (w .exit) ≡ fronted (now (w .entry)) (wordIn (now (w .entry)) clockAt) (jobsFrom (drop 1 (jobsOf (heldJobs (wordIn (now (w .entry))))))) ⌝ }
+    ensures { λ _. ⌜ now (w .exit) ≡ fronted (now (w .entry)) (wordIn (now (w .entry)) clockAt)
+        (jobsFrom (drop 1 (jobsOf (heldJobs (wordIn (now (w .entry))))))) ⌝ }
 {
     let left = w[layout::COUNT_AT] as usize - 1;
-    let end = layout::JOBS_AT + layout::JOB_SIZE * left;
-    move_down(w, layout::JOBS_AT, end);
+    move_jobs_down(w, left);
     w[layout::COUNT_AT] = left as u32;
-    clear(w, end, layout::LINES_AT);
+    clear_jobs(w, left);
 }

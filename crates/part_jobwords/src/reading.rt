@@ -11,13 +11,14 @@ use part_lines::one_rule;
 use part_lines::tray_gap;
 use spec_plain::Rule;
 use spec_plain::Settings;
+use spec_plain::limits;
 ghost use mathlib.Core.Path.{_≡_};
 ghost use mathlib.Core.List.{[], _∷_, _++_};
 ghost use mathlib.Core.Bool.{cond};
 ghost use Prim.Native.Nat.{ℕ, _≤_};
 ghost use lib.Dec.{eqb};
 ghost use lib.ListN.{length};
-ghost use Rattle.spec_plain.specs.Limits.{mostJobs};
+ghost use Rattle.spec_plain.specs.Limits.{mostJobs, mostPoints};
 ghost use Rattle.spec_plain.specs.Plain.{State, total, full, trayGap, notBefore, afterNewest, batchRules, starts};
 ghost use Rattle.part_lines.specs.Held.{jobsOf, rulesOf, rulesFrom, maybeFrom, endRule};
 ghost use Rattle.part_lines.specs.Asked.{Sized, Room};
@@ -43,13 +44,13 @@ pub fn points_in(w: &[u32]) -> u32
 // 14 "There are 16 jobs, or the points would pass 64", where n points are live beside the origin and m would come. The origin is
 // no job's point and isn't counted.
 pub fn is_full(w: &[u32], n: u32, m: u32) -> bool
-    requires { ⌜ (cellsAt ≤ length (now w)) × Sized (heldJobs (wordIn (now w))) × (n ≡ total (jobsOf (heldJobs (wordIn (now w))))) × (m ≤ 64) ⌝ }
+    requires { ⌜ (cellsAt ≤ length (now w)) × Sized (heldJobs (wordIn (now w))) × (n ≡ total (jobsOf (heldJobs (wordIn (now w))))) × (m ≤ mostPoints) ⌝ }
     ensures { λ r. ⌜ ((s : State) → s .jobs ≡ jobsOf (heldJobs (wordIn (now (w .entry)))) → r ≡ full s m) ⌝ }
 {
-    if 16 <= w[layout::COUNT_AT] {
+    if (limits::MOST_JOBS as u32) <= w[layout::COUNT_AT] {
         return true;
     }
-    64 < n + m
+    (limits::MOST_POINTS as u32) < n + m
 }
 
 // `end` where the batch is the one wanted, else 0.

@@ -1,17 +1,16 @@
 -- A use put into a line that is in words.
---   store-down        a loop that writes downwards: one more place below those that are written
 --   line-inserted     the line that is read afterwards;  beside-line: the other words are what they were
 -- The words afterwards: the count is one more; those of the uses before the place stay, those of the use stand at the place, and those of
 -- the uses behind it stand one use further up.
 use Prim.Native.Nat.{ℕ, zero, suc, _+_, _-_, _*_, _≤_, _<_}
 use mathlib.Core.Path.{_≡_, refl, sym, _∙_, ap}
 use mathlib.Core.List.{List}
-use lib.ListN.{length, getD, set, length-set, List·getD-eq-default}
+use lib.ListN.{length, getD, set, List·getD-eq-default}
 use lib.Seq.{ext-getD, getD-set-same, getD-set-other}
 use native.Mathlib.Decide.{decLt}
 use native.Mathlib.Omega.{arith}
 use Rattle.base_lists.specs.Loops.{rewritten}
-use Rattle.base_lists.proofs.Rewritten.{rewritten-length, rewritten-in, rewritten-below, rewritten-from, rewritten-is}
+use Rattle.base_lists.proofs.Rewritten.{rewritten-length, rewritten-in, rewritten-below, rewritten-from}
 use Rattle.spec_plain.specs.Limits.{mostUses}
 use Rattle.spec_plain.specs.Plain.{noUse, inserted}
 use Rattle.spec_plain.specs.declared.Use.{Use}
@@ -20,8 +19,8 @@ use Rattle.part_lines.specs.Padded.{padded}
 use Rattle.part_lines.specs.Held.{lineOf, lineFrom}
 use Rattle.part_lines.proofs.Padded.{length-padded, padded-at}
 use Rattle.part_lines.proofs.LineLaws.{length-inserted}
-use Rattle.part_boardwords.specs.Layout.{useSize, usesIn, lineSize, useStart}
-use Rattle.part_boardwords.specs.Words.{wordIn, useAt, usesRead, lineRead}
+use Rattle.part_boardwords.specs.Layout.{useSize, lineEnd, useStart}
+use Rattle.part_boardwords.specs.Words.{wordIn, upByUse, useAt, usesRead, lineRead}
 use Rattle.part_boardwords.specs.Codec.{useWords, put}
 use Rattle.base_lists.proofs.Build.{build-length, build-at}
 use Rattle.part_boardwords.proofs.Put.{put-length, put-below, put-from}
@@ -30,96 +29,75 @@ use Rattle.part_linewords.specs.Beside.{Tidy, Beside}
 use Rattle.part_boardwords.proofs.Parts.{use-by, use-written}
 use Rattle.part_lines.proofs.Inserted.{inserted-below, inserted-here, inserted-behind}
 
-pub store-down :
-    (f : ℕ → ℕ) (l m : List ℕ) (p q r v : ℕ) → m ≡ rewritten f l r q → r ≡ p + 1 → p < q → q ≤ length l → v ≡ f p
-    → set m p v ≡ rewritten f l p q
-store-down f l m p q r v is next lt fits e =
-    rewritten-is f l (set m p v) p q (length-set m p v ∙ same) (λ k lo hi h. inside k lo hi h (decLt p k))
-    (λ k h. getD-set-other m p k v 0 (λ c. omega arith) ∙ rw is (rewritten-below f l r q k (omega arith)))
-    (λ k h. getD-set-other m p k v 0 (λ c. omega arith) ∙ rw is (rewritten-from f l r q k h))
-  where
-    same : length m ≡ length l
-    same = rw is (rewritten-length f l r q)
-
-    here : (k : ℕ) → k ≡ p → getD (set m p v) k 0 ≡ f k
-    here k s = rw s (getD-set-same m p v 0 (omega (arith, same)) ∙ e)
-
-    inside : (k : ℕ) → p ≤ k → k < q → k < length l → Dec (p < k) → getD (set m p v) k 0 ≡ f k
-    inside k lo hi h (yes gt) = getD-set-other m p k v 0 (λ c. omega arith) ∙ rw is (rewritten-in f l r q k (omega arith) hi h)
-    inside k lo hi h (no le) = here k (omega arith)
-
 -- ---- the words afterwards
 
 module _
-    (W M P : List ℕ) (at place n : ℕ) (u : Use) (fits : at + lineSize ≤ length W) (in-place : place ≤ n) (few : n < 32)
-    (moved : M ≡ rewritten (λ k. getD W (k - useSize) 0) W (useStart (at + usesIn) place + useSize) (useStart (at + usesIn) n + useSize))
-    (stored : P ≡ put M (useStart (at + usesIn) place) (useWords u)) where
-  abbrev shift : ℕ → ℕ
-  shift k = getD W (k - useSize) 0
-
+    (W M P : List ℕ) (at place n : ℕ) (u : Use) (fits : lineEnd at ≤ length W) (in-place : place ≤ n) (few : n < 32)
+    (moved : M ≡ rewritten (upByUse W) W (useStart at place + useSize) (useStart at n + useSize))
+    (stored : P ≡ put M (useStart at place) (useWords u)) where
   length-moved : length M ≡ length W
-  length-moved = rw moved (rewritten-length shift W (useStart (at + usesIn) place + useSize) (useStart (at + usesIn) n + useSize))
+  length-moved = rw moved (rewritten-length (upByUse W) W (useStart at place + useSize) (useStart at n + useSize))
 
   length-stored : length P ≡ length W
-  length-stored = rw stored (put-length M (useStart (at + usesIn) place) (useWords u) ∙ length-moved)
+  length-stored = rw stored (put-length M (useStart at place) (useWords u) ∙ length-moved)
 
-  other : (k : ℕ) → (k ≡ at → ⊥) → getD (set P at (n + 1)) k 0 ≡ getD (put M (useStart (at + usesIn) place) (useWords u)) k 0
+  other : (k : ℕ) → (k ≡ at → ⊥) → getD (set P at (n + 1)) k 0 ≡ getD (put M (useStart at place) (useWords u)) k 0
   other k h = getD-set-other P at k (n + 1) 0 h ∙ rw stored refl
 
   word-count : getD (set P at (n + 1)) at 0 ≡ n + 1
   word-count = getD-set-same P at (n + 1) 0 (omega (arith, length-stored))
 
-  word-before : (k : ℕ) → (k ≡ at → ⊥) → k < useStart (at + usesIn) place → getD (set P at (n + 1)) k 0 ≡ getD W k 0
+  word-before : (k : ℕ) → (k ≡ at → ⊥) → k < useStart at place → getD (set P at (n + 1)) k 0 ≡ getD W k 0
   word-before k h l =
       other k h
-      ∙ put-below M (useStart (at + usesIn) place) (useWords u) k l
-      ∙ rw moved (rewritten-below shift W (useStart (at + usesIn) place + useSize) (useStart (at + usesIn) n + useSize) k (omega arith))
+      ∙ put-below M (useStart at place) (useWords u) k l
+      ∙ rw moved (rewritten-below (upByUse W) W (useStart at place + useSize) (useStart at n + useSize) k (omega arith))
 
   word-moved :
-      (k j : ℕ) → useStart (at + usesIn) place + useSize ≤ k → k < useStart (at + usesIn) n + useSize → k - useSize ≡ j
+      (k j : ℕ) → useStart at place + useSize ≤ k → k < useStart at n + useSize → k - useSize ≡ j
       → getD (set P at (n + 1)) k 0 ≡ getD W j 0
   word-moved k j lo hi e =
       other k (λ c. omega arith)
-      ∙ put-from M (useStart (at + usesIn) place) (useWords u) k lo
-      ∙ rw moved (rewritten-in shift W (useStart (at + usesIn) place + useSize) (useStart (at + usesIn) n + useSize) k lo hi (omega arith))
+      ∙ put-from M (useStart at place) (useWords u) k lo
+      ∙ rw moved (rewritten-in (upByUse W) W (useStart at place + useSize) (useStart at n + useSize) k lo hi (omega arith))
       ∙ ap (λ (i : ℕ). getD W i 0) e
 
-  word-behind : (k : ℕ) → useStart (at + usesIn) n + useSize ≤ k → getD (set P at (n + 1)) k 0 ≡ getD W k 0
+  word-behind : (k : ℕ) → useStart at n + useSize ≤ k → getD (set P at (n + 1)) k 0 ≡ getD W k 0
   word-behind k h =
       other k (λ c. omega arith)
-      ∙ put-from M (useStart (at + usesIn) place) (useWords u) k (omega arith)
-      ∙ rw moved (rewritten-from shift W (useStart (at + usesIn) place + useSize) (useStart (at + usesIn) n + useSize) k h)
+      ∙ put-from M (useStart at place) (useWords u) k (omega arith)
+      ∙ rw moved (rewritten-from (upByUse W) W (useStart at place + useSize) (useStart at n + useSize) k h)
 
   pub beside-line : Beside at (wordIn W) (wordIn (set P at (n + 1)))
   beside-line = (λ k h. word-before k (λ c. omega arith) (omega arith), λ k h. word-behind k (omega arith))
 
   abbrev now-use : ℕ → Use
-  now-use = useAt (wordIn (set P at (n + 1))) (at + usesIn)
+  now-use = useAt (wordIn (set P at (n + 1))) at
 
   abbrev old-use : ℕ → Use
-  old-use = useAt (wordIn W) (at + usesIn)
+  old-use = useAt (wordIn W) at
 
   use-before : (i : ℕ) → i < place → now-use i ≡ old-use i
   use-before i h =
-      use-by (wordIn (set P at (n + 1))) (wordIn W) (useStart (at + usesIn) i) (useStart (at + usesIn) i)
-      (λ k l. word-before (useStart (at + usesIn) i + k) (λ c. omega arith) (omega arith))
+      use-by (wordIn (set P at (n + 1))) (wordIn W) (useStart at i) (useStart at i)
+      (λ k l. word-before (useStart at i + k) (λ c. omega arith) (omega arith))
 
   use-here : (i : ℕ) → i ≡ place → now-use i ≡ u
   use-here i e =
-      let room : useStart (at + usesIn) place + useSize ≤ length M = omega (arith, length-moved) in
-      use-written (wordIn (set P at (n + 1))) (useStart (at + usesIn) i) u
-      (λ k l. other (useStart (at + usesIn) i + k) (λ c. omega arith)
-      ∙ put-at M (useStart (at + usesIn) place) (useWords u) (useStart (at + usesIn) i + k) k (omega arith) l room)
+      let room : useStart at place + useSize ≤ length M = omega (arith, length-moved) in
+      use-written (wordIn (set P at (n + 1))) (useStart at i) u
+      (λ k l. other (useStart at i + k) (λ c. omega arith)
+      ∙ put-at M (useStart at place) (useWords u) (useStart at i + k) k (omega arith) l room)
 
   use-moved : (i : ℕ) → place ≤ i → i < n → now-use (suc i) ≡ old-use i
   use-moved i lo hi =
-      use-by (wordIn (set P at (n + 1))) (wordIn W) (useStart (at + usesIn) (suc i)) (useStart (at + usesIn) i)
-      (λ k l. word-moved (useStart (at + usesIn) (suc i) + k) (useStart (at + usesIn) i + k) (omega arith) (omega arith) (omega arith))
+      use-by (wordIn (set P at (n + 1))) (wordIn W) (useStart at (suc i)) (useStart at i)
+      (λ k l. word-moved (useStart at (suc i) + k) (useStart at i + k) (omega arith) (omega arith) (omega arith))
 
   use-behind : (i : ℕ) → n < i → now-use i ≡ old-use i
   use-behind i h =
-      use-by (wordIn (set P at (n + 1))) (wordIn W) (useStart (at + usesIn) i) (useStart (at + usesIn) i)
-      (λ k l. word-behind (useStart (at + usesIn) i + k) (omega arith))
+      use-by (wordIn (set P at (n + 1))) (wordIn W) (useStart at i) (useStart at i)
+      (λ k l. word-behind (useStart at i + k) (omega arith))
 
   module _ (count : n ≡ wordIn W at) (tidy : Tidy (lineRead (wordIn W) at)) where
     abbrev held : List Use
@@ -163,7 +141,7 @@ module _
         let l : List Use = inserted place u held in
         let count-is : wordIn (set P at (n + 1)) at ≡ length l = word-count ∙ omega (arith, length-inserted place u held, size) in
         let len = build-length now-use 32 in
-        let uses-are : usesRead (wordIn (set P at (n + 1))) (at + usesIn) ≡ padded mostUses noUse l =
-        ext-getD noUse (usesRead (wordIn (set P at (n + 1))) (at + usesIn)) (padded mostUses noUse l) (len ∙ sym (length-padded mostUses noUse l))
+        let uses-are : usesRead (wordIn (set P at (n + 1))) at ≡ padded mostUses noUse l =
+        ext-getD noUse (usesRead (wordIn (set P at (n + 1))) at) (padded mostUses noUse l) (len ∙ sym (length-padded mostUses noUse l))
         (λ k h. build-at now-use 32 k noUse (omega (arith, len)) ∙ new-is k (omega (arith, len)) ∙ sym (padded-at mostUses noUse l k (omega (arith, len)))) in
         rw (count-is, uses-are) refl

@@ -12,7 +12,7 @@ use Rattle.part_lines.specs.Held.{lineFrom}
 use Rattle.part_lines.specs.Padded.{padded}
 use Rattle.part_lines.proofs.Padded.{length-padded, padded-at}
 use Rattle.base_lists.specs.Loops.{build}
-use Rattle.part_boardwords.specs.Layout.{usesIn, usesSize, lineSize}
+use Rattle.part_boardwords.specs.Layout.{usesIn, usesSize, lineSize, lineEnd}
 use Rattle.part_boardwords.specs.Words.{wordIn, useAt, usesRead}
 use Rattle.part_boardwords.specs.Codec.{usesWords, lineWords, put}
 use Rattle.base_lists.proofs.Build.{build-length, build-same, build-at, build-back}
@@ -22,19 +22,19 @@ use Rattle.part_boardwords.proofs.Written.{put-is}
 -- the words of the line that holds these uses, read one by one
 line-at :
     (x : List ℕ) (at : ℕ) (us : List Use) → length us ≤ 32 → wordIn x at ≡ length us
-    → ((m : ℕ) → m < 32 → useAt (wordIn x) (at + usesIn) m ≡ getD us m noUse)
+    → ((m : ℕ) → m < 32 → useAt (wordIn x) at m ≡ getD us m noUse)
     → lineWords (lineFrom us) ≡ wordIn x at ∷ build (λ j. wordIn x (at + usesIn + j)) usesSize
 line-at x at us few count uses =
-    let same : usesRead (wordIn x) (at + usesIn) ≡ padded mostUses noUse us =
-    build-same (useAt (wordIn x) (at + usesIn)) (λ m. getD (padded mostUses noUse us) m noUse) 32 (λ m h. uses m h ∙ sym (padded-at mostUses noUse us m h))
+    let same : usesRead (wordIn x) at ≡ padded mostUses noUse us =
+    build-same (useAt (wordIn x) at) (λ m. getD (padded mostUses noUse us) m noUse) 32 (λ m h. uses m h ∙ sym (padded-at mostUses noUse us m h))
     ∙ build-back (padded mostUses noUse us) 32 noUse (length-padded mostUses noUse us) in
     ap₂ (λ (a : ℕ) (l : List ℕ). a ∷ l) (sym count)
-    (ap usesWords (sym same) ∙ uses-read (wordIn x) (at + usesIn))
+    (ap usesWords (sym same) ∙ uses-read (wordIn x) at)
 
 pub line-put :
-    (w x : List ℕ) (at : ℕ) (us : List Use) → length us ≤ 32 → length x ≡ length w → at + lineSize ≤ length w → wordIn x at ≡ length us
-    → ((m : ℕ) → m < 32 → useAt (wordIn x) (at + usesIn) m ≡ getD us m noUse) → ((k : ℕ) → k < at → getD x k 0 ≡ getD w k 0)
-    → ((k : ℕ) → at + lineSize ≤ k → getD x k 0 ≡ getD w k 0) → x ≡ put w at (lineWords (lineFrom us))
+    (w x : List ℕ) (at : ℕ) (us : List Use) → length us ≤ 32 → length x ≡ length w → lineEnd at ≤ length w → wordIn x at ≡ length us
+    → ((m : ℕ) → m < 32 → useAt (wordIn x) at m ≡ getD us m noUse) → ((k : ℕ) → k < at → getD x k 0 ≡ getD w k 0)
+    → ((k : ℕ) → lineEnd at ≤ k → getD x k 0 ≡ getD w k 0) → x ≡ put w at (lineWords (lineFrom us))
 line-put w x at us few e room count uses below from =
     put-is w x at l e (omega (arith, size)) inside below (λ k h. from k (omega (arith, size))) ∙ ap (put w at) (sym (line-at x at us few count uses))
   where

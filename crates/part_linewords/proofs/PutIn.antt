@@ -19,7 +19,7 @@ use Rattle.part_lines.specs.Held.{lineOf, lineFrom, linesOf, linesFrom}
 use Rattle.part_lines.specs.Asked.{Short, Ready, Readable}
 use Rattle.part_lines.specs.Placing.{linesWith, allWith, AllFit}
 use Rattle.part_boardwords.specs.Layout.{linesAt, cellsAt, lineStart}
-use Rattle.part_boardwords.specs.Words.{wordIn, lineAt, linesRead, linesIn}
+use Rattle.part_boardwords.specs.Words.{wordIn, lineRead, lineAt, linesRead, linesIn}
 use Rattle.part_boardwords.specs.Codec.{linesWords, put}
 use Rattle.part_boardwords.proofs.Boards.{line-held}
 use Rattle.part_boardwords.proofs.Written.{lines-put}
@@ -55,16 +55,29 @@ module _
   unfolding AllFit
   fits-now = subst (AllFit x (linesIn w)) left (s .fits)
 
-  pub next-fits :
-      (p .place ≤ wordIn w (lineStart (p .resource))) × (wordIn w (lineStart (p .resource)) < 32) × Tidy (lineAt (wordIn w) (p .resource))
-  next-fits =
+  -- of the line whose first word is number i
+  abbrev Fits : ℕ → Type 0
+  Fits i = (p .place ≤ wordIn w i) × (wordIn w i < 32) × Tidy (lineRead (wordIn w) i)
+
+  fits-line : Fits (lineStart (p .resource))
+  fits-line =
       let size : length (getD (linesIn w) (p .resource) []) ≡ wordIn w (lineStart (p .resource)) =
       ap length (line-held (wordIn w) (p .resource) there) ∙ words-size (wordIn w) (s .ready) (p .resource) there in
       (omega (arith, size, fits-now .0), omega (arith, size, fits-now .1), words-tidy (wordIn w) (s .ready) (p .resource) there)
 
-  module _ (u : Use) (used : u ≡ usedFrom x p) (y : List ℕ) (same : length y ≡ length w)
-      (line : lineAt (wordIn y) (p .resource) ≡ lineFrom (inserted (p .place) u (lineOf (lineAt (wordIn w) (p .resource)))))
-      (beside : Beside (lineStart (p .resource)) (wordIn w) (wordIn y)) where
+  pub next-fits : (at : ℕ) → at ≡ lineStart (p .resource) → Fits at
+  next-fits at start = subst Fits (sym start) fits-line
+
+  module _ (u : Use) (used : u ≡ usedFrom x p) (y : List ℕ) (same : length y ≡ length w) (at : ℕ) (start : at ≡ lineStart (p .resource))
+      (line-now : lineRead (wordIn y) at ≡ lineFrom (inserted (p .place) u (lineOf (lineRead (wordIn w) at))))
+      (beside-now : Beside at (wordIn w) (wordIn y)) where
+    line : lineAt (wordIn y) (p .resource) ≡ lineFrom (inserted (p .place) u (lineOf (lineAt (wordIn w) (p .resource))))
+    line =
+        subst (λ (i : ℕ). lineRead (wordIn y) i ≡ lineFrom (inserted (p .place) u (lineOf (lineRead (wordIn w) i)))) start line-now
+
+    beside : Beside (lineStart (p .resource)) (wordIn w) (wordIn y)
+    beside = subst (λ (i : ℕ). Beside i (wordIn w) (wordIn y)) start beside-now
+
     short : Short u
     short = subst Short (sym used) (used-short x p (subst Readable (sym is) (read .each k more)))
 

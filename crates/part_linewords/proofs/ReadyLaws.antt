@@ -15,7 +15,7 @@ use Rattle.part_lines.specs.Held.{lineOf, lineFrom, linesOf, linesFrom, noLine}
 use Rattle.part_lines.specs.Asked.{Short, AllShort, Ready}
 use Rattle.part_lines.proofs.Lists.{map-set, map-at, set-all}
 use Rattle.part_lines.proofs.LineLaws.{line-back, length-inserted}
-use Rattle.part_boardwords.specs.Layout.{usesIn, lineStart}
+use Rattle.part_boardwords.specs.Layout.{lineStart}
 use Rattle.part_boardwords.specs.Words.{Words, useAt, lineAt, linesRead}
 use Rattle.part_boardwords.proofs.Boards.{line-of, line-count, line-held}
 use Rattle.part_linewords.specs.Beside.{Tidy}

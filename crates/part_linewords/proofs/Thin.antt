@@ -17,7 +17,7 @@ use Rattle.spec_plain.specs.Plain.{noUse, staying}
 use Rattle.part_lines.specs.Held.{lineOf, lineFrom}
 use Rattle.part_lines.proofs.LeavingLaws.{few-stay, staying-append}
 use Rattle.base_lists.specs.Loops.{rewritten}
-use Rattle.part_boardwords.specs.Layout.{useSize, usesIn, usesSize, lineSize, useStart}
+use Rattle.part_boardwords.specs.Layout.{useSize, lineEnd, useStart}
 use Rattle.part_boardwords.specs.Words.{wordIn, useRead, useAt, usesRead, lineRead}
 use Rattle.part_boardwords.specs.Codec.{useWords, lineWords, put}
 use Rattle.base_lists.proofs.Build.{build-length, build-at, past}
@@ -90,7 +90,7 @@ module _ (f m : ℕ) (w₀ : List ℕ) (at : ℕ) where
             ap (useAt (wordIn x) at) e ∙ use-at ∙ ev ∙ sym (past us o i 0 noUse (omega arith))
 
   pub thin-more :
-      (w x : List ℕ) (n k : ℕ) (u v : Use) (c : ℕ) → at + usesSize ≤ length w → k < 32 → n ≡ length (left k) → Thinned w₀ w at k (left k)
+      (w x : List ℕ) (n k : ℕ) (u v : Use) (c : ℕ) → lineEnd at ≤ length w → k < 32 → n ≡ length (left k) → Thinned w₀ w at k (left k)
       → u ≡ useRead (wordIn w) (useStart at k) → v ≡ getD (staying f m (u ∷ [])) 0 noUse → c ≡ length (staying f m (u ∷ []))
       → x ≡ put w (useStart at n) (useWords v) → (n + c ≡ length (left (k + 1))) × Thinned w₀ x at (k + 1) (left (k + 1))
   thin-more w x n k u v c room h size t eu ev ec is =
@@ -107,15 +107,15 @@ module _ (f m : ℕ) (w₀ : List ℕ) (at : ℕ) where
       )
 
 pub stay-put :
-    (f m : ℕ) (w y x : List ℕ) (at n : ℕ) → at + lineSize ≤ length w → wordIn w at ≤ mostUses → length y ≡ length w
+    (f m : ℕ) (w y x : List ℕ) (at n : ℕ) → lineEnd at ≤ length w → wordIn w at ≤ mostUses → length y ≡ length w
     → n ≡ length (staying f m (lineOf (lineRead (wordIn w) at)))
-    → Thinned w y (at + usesIn) (wordIn w at) (staying f m (lineOf (lineRead (wordIn w) at)))
-    → x ≡ rewritten (λ k. 0) (set y at n) (useStart (at + usesIn) n) (at + lineSize)
+    → Thinned w y at (wordIn w at) (staying f m (lineOf (lineRead (wordIn w) at)))
+    → x ≡ rewritten (λ k. 0) (set y at n) (useStart at n) (lineEnd at)
     → x ≡ put w at (lineWords (lineFrom (staying f m (lineOf (lineRead (wordIn w) at)))))
 stay-put f m w y x at n room few len size t is =
     cleared-put w (set y at n) x at n us size (omega (arith, most)) room (length-set y at n ∙ len) (getD-set-same y at n 0 (omega arith))
-    (λ i h. use-by (wordIn (set y at n)) (wordIn y) (useStart (at + usesIn) i) (useStart (at + usesIn) i)
-    (λ k l. other (useStart (at + usesIn) i + k) (omega arith))
+    (λ i h. use-by (wordIn (set y at n)) (wordIn y) (useStart at i) (useStart at i)
+    (λ k l. other (useStart at i + k) (omega arith))
     ∙ t .uses i (omega arith)) (λ k h. getD-set-other y at k n 0 (λ c. omega arith) ∙ t .before k (omega arith))
     (λ k h. other k (omega arith) ∙ t .behind k (omega arith)) is
   where
@@ -125,5 +125,5 @@ stay-put f m w y x at n room few len size t is =
     most : length us ≤ wordIn w at
     most = omega (arith, few-stay f m (lineOf (lineRead (wordIn w) at)), held-size (wordIn w) at few)
 
-    other : (k : ℕ) → at + usesIn ≤ k → getD (set y at n) k 0 ≡ getD y k 0
+    other : (k : ℕ) → useStart at 0 ≤ k → getD (set y at n) k 0 ≡ getD y k 0
     other k h = getD-set-other y at k n 0 (λ c. omega arith)

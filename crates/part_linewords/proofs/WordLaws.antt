@@ -9,7 +9,7 @@ use native.Mathlib.Omega.{arith}
 use Rattle.spec_plain.specs.Limits.{resources}
 use Rattle.base_lists.proofs.Build.{build-length}
 use Rattle.part_lines.specs.Held.{noLine}
-use Rattle.part_boardwords.specs.Layout.{lineSize, lineStart}
+use Rattle.part_boardwords.specs.Layout.{lineStart, lineEnd}
 use Rattle.part_boardwords.specs.Words.{Words, lineAt, linesRead}
 use Rattle.part_boardwords.proofs.Boards.{line-of, same-line}
 use Rattle.part_linewords.specs.Beside.{Beside}
@@ -18,7 +18,7 @@ module _ (v w : Words) (r : ℕ) (h : r < resources) (beside : Beside (lineStart
   same-other : (k : ℕ) → (k ≡ r → ⊥) → lineAt w k ≡ lineAt v k
   same-other k other = same-line w v (lineStart k) (λ n a b. go n a b (decLt k r))
     where
-      go : (n : ℕ) → lineStart k ≤ n → n < lineStart k + lineSize → Dec (k < r) → w n ≡ v n
+      go : (n : ℕ) → lineStart k ≤ n → n < lineEnd (lineStart k) → Dec (k < r) → w n ≡ v n
       go n a b (yes lt) = beside .0 n (omega arith)
       go n a b (no ge) = let past : r < k = omega arith in beside .1 n (omega arith)
 

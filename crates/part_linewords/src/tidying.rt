@@ -1,27 +1,23 @@
 // The lines with 0 in every place not in use.
-use part_boardwords::clear;
-use part_boardwords::layout;
+use part_boardwords::clear_uses;
+use part_boardwords::line_start;
 use spec_plain::limits;
 ghost use mathlib.Core.Path.{_≡_};
-ghost use Prim.Native.Nat.{ℕ, _+_, _≤_};
+ghost use Prim.Native.Nat.{ℕ, _≤_};
 ghost use lib.ListN.{length, getD};
 ghost use Rattle.spec_plain.specs.Limits.{mostUses};
 ghost use Rattle.part_lines.specs.Held.{lineOf, linesOf, noLine, lineFrom, linesFrom};
-ghost use Rattle.part_boardwords.specs.Layout.{lineSize, linesAt, cellsAt};
+ghost use Rattle.part_boardwords.specs.Layout.{linesAt, cellsAt, lineEnd};
 ghost use Rattle.part_boardwords.specs.Words.{wordIn, lineRead, linesRead};
 ghost use Rattle.part_boardwords.specs.Codec.{lineWords, linesWords, put};
 
 // The line at word `at`, with 0 in every place not in use.
 fn tidy_line(w: &mut [u32], at: usize)
-    requires { ⌜ (at + lineSize ≤ length (now w)) × (wordIn (now w) at ≤ mostUses) ⌝ }
+    requires { ⌜ (lineEnd at ≤ length (now w)) × (wordIn (now w) at ≤ mostUses) ⌝ }
     ensures { λ _. ⌜ now (w .exit) ≡ put (now (w .entry)) at (lineWords (lineFrom (lineOf (lineRead (wordIn (now (w .entry))) at)))) ⌝ }
 {
     let count = w[at] as usize;
-    clear(
-        w,
-        at + layout::USES_IN + layout::USE_SIZE * count,
-        at + layout::LINE_SIZE,
-    );
+    clear_uses(w, at, count);
 }
 
 // The lines of a board, with 0 in every place not in use.
@@ -31,6 +27,6 @@ pub fn tidy_lines(w: &mut [u32])
     ensures { λ _. ⌜ now (w .exit) ≡ put (now (w .entry)) linesAt (linesWords (linesFrom (linesOf (linesRead (wordIn (now (w .entry))))))) ⌝ }
 {
     for k in 0..limits::RESOURCES {
-        tidy_line(w, layout::LINES_AT + layout::LINE_SIZE * k);
+        tidy_line(w, line_start(k));
     }
 }

@@ -1,13 +1,14 @@
 // The use that an allocation makes.
 ghost use mathlib.Core.Path.{_≡_};
 ghost use Prim.Native.Nat.{_≤_};
+ghost use Rattle.spec_plain.specs.Limits.{mostPoints, mostSteps};
 ghost use Rattle.spec_plain.specs.Plain.{usedFrom};
 use spec_plain::Put;
 use spec_plain::Use;
 
 // The use of an allocation, where p0 of its job is the point `first`.
 pub fn used_from(first: u32, put: Put) -> Use
-    requires { ⌜ (first ≤ 64) × (put .step ≤ 8) ⌝ }
+    requires { ⌜ (first ≤ mostPoints) × (put .step ≤ mostSteps) ⌝ }
     ensures { λ r. ⌜ r ≡ usedFrom first put ⌝ }
 {
     Use {

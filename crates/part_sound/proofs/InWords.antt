@@ -20,24 +20,25 @@ use Rattle.part_lines.specs.declared.Line.{Line}
 use Rattle.part_lines.specs.Held.{lineOf, noLine}
 use Rattle.part_lines.proofs.Lists.{held-next, held-over}
 use Rattle.base_lists.specs.Loops.{allBelow}
-use Rattle.part_boardwords.specs.Layout.{usesIn, boardSize}
-use Rattle.part_boardwords.specs.Words.{Words, wordIn, boardIn, useAt, lineRead, lineAt, linesRead, usesRead, boardRead, frameRead, lentBoard, allMarked, isMarked}
+use Rattle.part_boardwords.specs.Layout.{boardSize}
+use Rattle.part_boardwords.specs.Words.{Words, wordIn, useAt, lineRead, lineAt, linesRead, usesRead}
+use Rattle.part_boardwords.specs.Words.{boardIn, boardRead, frameRead, lentBoard, allMarked, isMarked}
 use Rattle.base_lists.proofs.Build.{build-length, build-at}
 use Rattle.part_boardwords.proofs.Lent.{lentTable, cells-lent}
 use Rattle.part_sound.specs.Sound.{clausesKept, sound}
 use Rattle.part_sound.proofs.Flags.{left-next}
 
 module _ (w : Words) (at : ℕ) (small : w at ≤ mostUses) where
-  long : length (usesRead w (at + usesIn)) ≡ 32
-  long = build-length (useAt w (at + usesIn)) mostUses
+  long : length (usesRead w at) ≡ mostUses
+  long = build-length (useAt w at) mostUses
 
-  pub use-next : (k : ℕ) (u : Use) → k < w at → u ≡ useAt w (at + usesIn) k → drop k (lineOf (lineRead w at)) ≡ u ∷ drop (k + 1) (lineOf (lineRead w at))
+  pub use-next : (k : ℕ) (u : Use) → k < w at → u ≡ useAt w at k → drop k (lineOf (lineRead w at)) ≡ u ∷ drop (k + 1) (lineOf (lineRead w at))
   use-next k u h e =
-      held-next (w at) (usesRead w (at + usesIn)) k noUse h (omega (arith, long))
-      ∙ ap (λ (x : Use). x ∷ drop (k + 1) (lineOf (lineRead w at))) (build-at (useAt w (at + usesIn)) mostUses k noUse (omega arith) ∙ sym e)
+      held-next (w at) (usesRead w at) k noUse h (omega (arith, long))
+      ∙ ap (λ (x : Use). x ∷ drop (k + 1) (lineOf (lineRead w at))) (build-at (useAt w at) mostUses k noUse (omega arith) ∙ sym e)
 
   pub use-over : (k : ℕ) → w at ≤ k → drop k (lineOf (lineRead w at)) ≡ []
-  use-over k h = held-over (w at) (usesRead w (at + usesIn)) k h
+  use-over k h = held-over (w at) (usesRead w at) k h
 
 pub lines-next : (w : Words) (k : ℕ) → k < resources → drop k (linesRead w) ≡ lineAt w k ∷ drop (k + 1) (linesRead w)
 lines-next w k h =

@@ -18,6 +18,7 @@ use sent::is_sent_still;
 use sizing::are_numbers_sized;
 pub use sizing::are_settings_sized;
 use sizing::is_each_sized;
+use spec_plain::limits;
 ghost use mathlib.Core.Path.{_≡_};
 ghost use mathlib.Core.Bool.{true};
 ghost use Prim.Native.Nat.{_≤_};
@@ -32,7 +33,8 @@ ghost use Rattle.part_sound.specs.Sound.{sizedNumbers, sizedJobs, clause
 // The clauses on lines, sent jobs and table, of a board whose numbers and jobs are sized. It has n points beside the origin.
 fn are_others_kept(w: &[u32], t: &[u32], n: u32) -> bool
     requires { ⌜ (cellsAt ≤ length (now w)) × (length (now t) ≡ cellCount) ⌝ }
-    requires { ⌜ (sizedNumbers (settingsRead (wordIn (now w))) (wordIn (now w) clockAt) ≡ true) × (sizedJobs (heldJobs (wordIn (now w))) ≡ true) × (n ≡ total (jobsOf (heldJobs (wordIn (now w))))) ⌝ }
+    requires { ⌜ (sizedNumbers (settingsRead (wordIn (now w))) (wordIn (now w) clockAt) ≡ true) × (sizedJobs (heldJobs (wordIn (now w))) ≡ true)
+        × (n ≡ total (jobsOf (heldJobs (wordIn (now w))))) ⌝ }
     ensures { λ r. ⌜ r ≡ clausesKept (frameRead (wordIn (now (w .entry))) (now (t .entry))) ⌝ }
 {
     if !are_lines_sized(w, n) {
@@ -55,14 +57,14 @@ fn are_clauses_kept(w: &[u32], t: &[u32]) -> bool
     if !are_numbers_sized(settings_in(w), w[layout::CLOCK_AT]) {
         return false;
     }
-    if 16 < w[layout::COUNT_AT] {
+    if (limits::MOST_JOBS as u32) < w[layout::COUNT_AT] {
         return false;
     }
     if !is_each_sized(w) {
         return false;
     }
     let n = points_in(w);
-    if 64 < n {
+    if (limits::MOST_POINTS as u32) < n {
         return false;
     }
     are_others_kept(w, t, n)

@@ -1,14 +1,14 @@
 // The lines: how many uses they hold, and whether each is within the limits and hangs on a live point.
-use part_boardwords::layout;
-use part_boardwords::read_use;
+use part_boardwords::line_start;
+use part_boardwords::use_at;
 use spec_plain::Use;
 use spec_plain::limits;
 ghost use mathlib.Core.Path.{_≡_};
-ghost use Prim.Native.Nat.{_+_, _≤_};
+ghost use Prim.Native.Nat.{_≤_};
 ghost use lib.ListN.{length};
 ghost use Rattle.spec_plain.specs.Limits.{mostUses};
 ghost use Rattle.part_lines.specs.Held.{lineOf};
-ghost use Rattle.part_boardwords.specs.Layout.{lineSize, cellsAt};
+ghost use Rattle.part_boardwords.specs.Layout.{cellsAt, lineEnd};
 ghost use Rattle.part_boardwords.specs.Words.{wordIn, lineRead, linesRead};
 ghost use Rattle.part_sound.specs.Sound.{allOf, sizedUse, sizedLine};
 
@@ -24,23 +24,23 @@ fn is_use_sized(u: Use, n: u32) -> bool
 
 // The uses in use of the line at word `at`.
 fn are_uses_sized(w: &[u32], at: usize, n: u32) -> bool
-    requires { ⌜ (at + lineSize ≤ length (now w)) × (wordIn (now w) at ≤ mostUses) ⌝ }
+    requires { ⌜ (lineEnd at ≤ length (now w)) × (wordIn (now w) at ≤ mostUses) ⌝ }
     ensures { λ r. ⌜ r ≡ allOf (sizedUse n) (lineOf (lineRead (wordIn (now (w .entry))) at)) ⌝ }
 {
     let count = w[at] as usize;
     let mut ok = true;
     for k in 0..count {
-        let u = read_use(w, at + layout::USES_IN + layout::USE_SIZE * k);
+        let u = use_at(w, at, k);
         ok = ok & is_use_sized(u, n);
     }
     ok
 }
 
 fn is_line_sized(w: &[u32], at: usize, n: u32) -> bool
-    requires { ⌜ at + lineSize ≤ length (now w) ⌝ }
+    requires { ⌜ lineEnd at ≤ length (now w) ⌝ }
     ensures { λ r. ⌜ r ≡ sizedLine n (lineRead (wordIn (now (w .entry))) at) ⌝ }
 {
-    if 32 < w[at] {
+    if (limits::MOST_USES as u32) < w[at] {
         return false;
     }
     are_uses_sized(w, at, n)
@@ -52,7 +52,7 @@ pub fn are_lines_sized(w: &[u32], n: u32) -> bool
 {
     let mut ok = true;
     for k in 0..limits::RESOURCES {
-        ok = ok & is_line_sized(w, layout::LINES_AT + layout::LINE_SIZE * k, n);
+        ok = ok & is_line_sized(w, line_start(k), n);
     }
     ok
 }

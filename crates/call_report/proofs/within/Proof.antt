@@ -4,4 +4,4 @@ use Rattle.call_report.proofs.within.Statement.{statement}
 use Rattle.call_report.proofs.within.Tie as tie
 
 pub within-spec : {M : Type 1} → statement M
-within-spec = tie.close (tie.spec (λ c. omega arith) (λ c. omega arith))
+within-spec = tie.close (tie.spec (λ c. omega arith) (λ c. omega arith) (λ c. omega arith))

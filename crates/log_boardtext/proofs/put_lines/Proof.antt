@@ -18,5 +18,5 @@ pub put-lines-spec : {M : Type 1} → statement M
 put-lines-spec =
     tie.close
     (tie.spec
-    Inv-loop μ-loop (λ c. search needs) (λ c. omega arith) (λ c. omega arith) (λ c. omega arith) (λ c κs. search needs) (λ c. omega arith)
-    (λ c. omega arith) (λ c. search needs) (λ c. omega arith) (λ c. search needs))
+    Inv-loop μ-loop (λ c. search needs) (λ c. omega arith) (λ c κs. search needs) (λ c κs. omega (arith, c .line-start .ensures))
+    (λ c. omega arith) (λ c. omega arith) (λ c. search needs) (λ c. omega arith) (λ c. search needs))

@@ -17,7 +17,7 @@ use Rattle.part_sound.proofs.are_clauses_kept.Statement.{statement}
 use Rattle.part_sound.proofs.are_clauses_kept.Tie as tie
 
 module _ (jobs : Jobs) where
-  too-many : 16 < jobs .count → sizedJobs jobs ≡ false
+  too-many : mostJobs < jobs .count → sizedJobs jobs ≡ false
   unfolding sizedJobs
   too-many h = sym (fails _ (lt-leb _ _ h))
 
@@ -105,5 +105,5 @@ pub are-clauses-kept-spec : {M : Type 1} → statement M
 are-clauses-kept-spec =
     tie.close
     (tie.spec
-    (λ c κs. search needs) (λ c. search needs) (λ c κs. search needs) returns (λ c. search needs) returns-2 (λ c κs. search needs) returns-3
-    points-in-requires returns-4 are-others-kept-requires (λ c. search needs))
+    (λ c κs. search needs) (λ c. search needs) (λ c κs. search needs) returns (λ c. search needs) (λ c. search needs) returns-2
+    (λ c κs. search needs) returns-3 points-in-requires (λ c. search needs) returns-4 are-others-kept-requires (λ c. search needs))

@@ -1,13 +1,12 @@
 -- `line_ends` meets its contract. The loop keeps whether the uses passed end by the clock.
 use mathlib.Core.Bool.{_&&_}
 use mathlib.Core.Path.{subst, _≡_, refl}
-use Prim.Native.Nat.{_≤_, _-_, _+_}
+use Prim.Native.Nat.{_≤_, _-_}
 use native.Mathlib.Omega.{arith}
 use lib.ListN.{drop}
 use Rattle.part_lines.specs.Held.{lineOf}
 use Rattle.part_lines.specs.Asked.{Short}
 use Rattle.part_lines.proofs.Lists.{held-over}
-use Rattle.part_boardwords.specs.Layout.{usesIn}
 use Rattle.part_boardwords.specs.Words.{wordIn, usesRead, lineRead}
 use Rattle.call_dispatch.proofs.Ended.{usesEnd, uses-next, uses-end, read-at, read-next}
 use Rattle.call_dispatch.proofs.ending.line_ends.Statement.{statement}
@@ -29,7 +28,7 @@ use-ends-requires c κs =
     let entry = turn .before .before .before .before in
     let A = entry .args in
     let k = turn .loop .k in
-    let is = read-at (wordIn (A .w .now)) (A .at) k (omega arith) (omega arith) (c .read-use .result) (c .read-use .ensures) in
+    let is = read-at (wordIn (A .w .now)) (A .at) k (omega arith) (omega arith) (c .use-at .result) (c .use-at .ensures) in
     (entry .pre .0, subst Short is (entry .pre .3 k))
 
 loop-again : tie.Need-loop-again Inv-loop μ-loop
@@ -39,10 +38,10 @@ loop-again c =
     let A = turn .before .before .before .before .args in
     let L = turn .loop in
     let w = wordIn (A .w .now) in
-    let u = read .read-use .result in (
+    let u = read .use-at .result in (
       omega arith,
       uses-next (A .t .now) (A .settings) (A .clock) (A .f) (A .m) (lineOf (lineRead w (A .at))) (L .k) (L .ok) (L .inv .1) u _
-          (read-next w (A .at) (L .k) (omega arith) (omega arith) u (read .read-use .ensures)) (c .use-ends .ensures),
+          (read-next w (A .at) (L .k) (omega arith) (omega arith) u (read .use-at .ensures)) (c .use-ends .ensures),
     )
 
 returns : tie.Need-returns Inv-loop μ-loop
@@ -52,11 +51,11 @@ returns c =
     let L = turn .loop in
     let w = wordIn (A .w .now) in
     uses-end (A .t .now) (A .settings) (A .clock) (A .f) (A .m) (lineOf (lineRead w (A .at))) (L .k) (L .ok) (L .inv .1)
-    (held-over (w (A .at)) (usesRead w (A .at + usesIn)) (L .k) (omega arith))
+    (held-over (w (A .at)) (usesRead w (A .at)) (L .k) (omega arith))
 
 pub line-ends-spec : {M : Type 1} → statement M
 line-ends-spec =
     tie.close
     (tie.spec
-    Inv-loop μ-loop (λ c. omega arith) (λ c. omega arith) (λ c. omega arith) loop-holds (λ c. omega arith) (λ c. omega arith) (λ c. omega arith)
-    (λ c κs. omega arith) use-ends-requires (λ c. omega arith) (λ c. omega arith) loop-again returns)
+    Inv-loop μ-loop (λ c. omega arith) (λ c. omega arith) (λ c. omega arith) loop-holds (λ c κs. omega arith) use-ends-requires
+    (λ c. omega arith) (λ c. omega arith) loop-again returns)

@@ -22,19 +22,21 @@ loop-holds c = (omega arith, refl)
 
 line-ends-requires : tie.Need-line-ends-requires Inv-loop μ-loop
 line-ends-requires c κs =
-    let turn = c .before in
+    let turn = c .before .before in
     let entry = turn .before .before .before in
-    let line = lined-read (wordIn (entry .args .w .now)) (turn .loop .k) (omega arith) (entry .pre .2) in
-    (entry .pre .0, omega arith, line .0, line .1)
+    let start = c .line-start .ensures in
+    let line = lined-read (wordIn (entry .args .w .now)) (turn .loop .k) _ (omega arith) start (entry .pre .2) in
+    (entry .pre .0, omega (arith, start), line .0, line .1)
 
 loop-again : tie.Need-loop-again Inv-loop μ-loop
 loop-again c =
-    let turn = c .before .before in
+    let start = c .before in
+    let turn = start .before .before in
     let A = turn .before .before .before .args in
     let L = turn .loop in (
       omega arith,
-      read-line-next (A .t .now) (A .settings) (A .clock) (A .f) (A .m) (wordIn (A .w .now)) (L .k) (L .ok) (L .inv .1) _ (omega arith)
-          (c .line-ends .ensures),
+      read-line-next (A .t .now) (A .settings) (A .clock) (A .f) (A .m) (wordIn (A .w .now)) (L .k) (L .ok) (L .inv .1) _ _ (omega arith)
+          (start .line-start .ensures) (c .line-ends .ensures),
     )
 
 returns : tie.Need-returns Inv-loop μ-loop
@@ -48,4 +50,4 @@ pub lines-end-spec : {M : Type 1} → statement M
 lines-end-spec =
     tie.close
     (tie.spec
-    Inv-loop μ-loop loop-holds (λ c. omega arith) (λ c. omega arith) line-ends-requires (λ c. omega arith) (λ c. omega arith) loop-again returns)
+    Inv-loop μ-loop loop-holds (λ c κs. omega arith) line-ends-requires (λ c. omega arith) (λ c. omega arith) loop-again returns)

@@ -24,33 +24,31 @@ abbrev μ-loop : tie.MeasureT-loop
 loop-holds : tie.Need-loop-holds Inv-loop μ-loop
 loop-holds c = (omega arith, refl)
 
-add-read-use : tie.Need-add-read-use Inv-loop μ-loop
-add-read-use c = omega (arith, c .before .before .before .before .before .pre .2 .count)
-
-mul-read-use : tie.Need-mul-read-use Inv-loop μ-loop
-mul-read-use c = omega (arith, c .before .before .before .before .before .pre .2 .count)
-
-add-read-use-2 : tie.Need-add-read-use-2 Inv-loop μ-loop
-add-read-use-2 c = omega (arith, c .before .before .before .before .before .pre .2 .count)
-
-read-use-requires : tie.Need-read-use-requires Inv-loop μ-loop
-read-use-requires c κs = omega (arith, c .before .before .before .before .before .pre .2 .count)
+use-at-requires : tie.Need-use-at-requires Inv-loop μ-loop
+use-at-requires c κs =
+    let turn = c .before in
+    let entry = turn .before .before .before .before in
+    (entry .pre .1, omega (arith, entry .pre .2 .count))
 
 end-requires : tie.Need-end-requires Inv-loop μ-loop
 end-requires c κs =
-    let entry = c .before .before .before .before .before .before in
-    (entry .pre .0, use-low (entry .pre .2) (c .before .loop-test .taken) (c .read-use .ensures))
+    let inside = c .before in
+    let turn = inside .before in
+    let entry = turn .before .before .before .before in
+    (entry .pre .0, use-low (entry .pre .2) (inside .loop-test .taken) (c .use-at .ensures))
 
 loop-again : tie.Need-loop-again Inv-loop μ-loop
 loop-again c =
-    let turn = c .before .before .before .before in
+    let ends = c .before in
+    let read = ends .before in
+    let inside = read .before in
+    let turn = inside .before in
     let entry = turn .before .before .before .before in
     let L = turn .loop in
     let f = wordIn (entry .args .w .now) in
     let line = lineOf (lineRead f (entry .args .at)) in
-    let read = c .before .before in
-    let next = use-next f (entry .args .at) (entry .pre .2 .count) (L .k) _ (read .before .loop-test .taken) (read .read-use .ensures) in
-    let last = c .larger .ensures ∙ ap (λ (e : ℕ). max (L .last) e) (c .before .end .ensures) in
+    let next = use-next f (entry .args .at) (entry .pre .2 .count) (L .k) _ (inside .loop-test .taken) (read .use-at .ensures) in
+    let last = c .larger .ensures ∙ ap (λ (e : ℕ). max (L .last) e) (ends .end .ensures) in
     (omega arith, end-next _ line (entry .args .time) (L .k) (L .last) (L .inv .1) _ _ next last)
 
 returns : tie.Need-returns Inv-loop μ-loop
@@ -67,5 +65,5 @@ pub last-end-spec : {M : Type 1} → statement M
 last-end-spec =
     tie.close
     (tie.spec
-    Inv-loop μ-loop (λ c. omega arith) (λ c. omega arith) (λ c. omega arith) loop-holds add-read-use mul-read-use add-read-use-2
-    read-use-requires end-requires (λ c κs. search needs) (λ c. omega arith) (λ c. omega arith) loop-again returns)
+    Inv-loop μ-loop (λ c. omega arith) (λ c. omega arith) (λ c. omega arith) loop-holds use-at-requires end-requires
+    (λ c κs. search needs) (λ c. omega arith) (λ c. omega arith) loop-again returns)

@@ -1,6 +1,6 @@
 -- `lines_end` meets its contract. The loop goes down the lines: the last end so far, with the lines that are left, gives the last end of all.
 use Prim.Native.Nat.{_≤_, _-_}
-use mathlib.Core.Path.{_≡_, refl, sym, _∙_, ap}
+use mathlib.Core.Path.{_≡_, refl, sym, _∙_, ap, subst}
 use native.Mathlib.Omega.{arith}
 use lib.ListN.{drop}
 use Rattle.spec_plain.specs.Limits.{resources}
@@ -8,15 +8,16 @@ use Rattle.part_lines.specs.declared.Line.{Line}
 use Rattle.part_lines.specs.Held.{lineOf}
 use Rattle.base_lists.proofs.Build.{build-length}
 use Rattle.part_gaps.specs.Cells.{tableOf}
-use Rattle.part_boardwords.specs.Words.{wordIn, lineAt, linesRead}
+use Rattle.part_boardwords.specs.Words.{wordIn, lineRead, lineAt, linesRead}
 use Rattle.part_boardwords.proofs.Boards.{line-of}
-use Rattle.log_chart.specs.Chart.{lastEnd, linesEnd}
+use Rattle.log_chart.specs.Chart.{OnTable, lastEnd, linesEnd}
 use Rattle.log_chart.proofs.Laws.{lines-next, lines-done}
 use Rattle.log_chart.proofs.scale.lines_end.Statement.{statement}
 use Rattle.log_chart.proofs.scale.lines_end.Tie as tie
 
 abbrev Inv-loop : tie.InvT-loop
-Inv-loop t w time last₀ k₀ last k = (k ≤ resources) × (linesEnd (tableOf t) (drop k (linesRead (wordIn w))) last ≡ linesEnd (tableOf t) (linesRead (wordIn w)) time)
+Inv-loop t w time last₀ k₀ last k = (k ≤ resources)
+    × (linesEnd (tableOf t) (drop k (linesRead (wordIn w))) last ≡ linesEnd (tableOf t) (linesRead (wordIn w)) time)
 
 abbrev μ-loop : tie.MeasureT-loop
 μ-loop t w time last₀ k₀ last k = resources - k
@@ -25,15 +26,22 @@ loop-holds : tie.Need-loop-holds Inv-loop μ-loop
 loop-holds c = (omega arith, refl)
 
 last-end-requires : tie.Need-last-end-requires Inv-loop μ-loop
-last-end-requires c κs = let entry = c .before .before .before .before in (entry .pre .0, omega arith, entry .pre .2 (c .before .loop .k) (omega arith))
+last-end-requires c κs =
+    let turn = c .before .before in
+    let entry = turn .before .before .before in
+    let is = c .line-start .ensures in
+    let on = subst (OnTable (wordIn (entry .args .w .now))) (sym is) (entry .pre .2 (turn .loop .k) (omega arith)) in
+    (entry .pre .0, omega (arith, is), on)
 
 loop-again : tie.Need-loop-again Inv-loop μ-loop
 loop-again c =
-    let turn = c .before .before in
+    let start = c .before in
+    let turn = start .before .before in
     let entry = turn .before .before .before in
     let L = turn .loop in
     let w = wordIn (entry .args .w .now) in
-    let line = ap (λ (l : Line). lastEnd (tableOf (entry .args .t .now)) (lineOf l) (L .last)) (sym (line-of w (L .k) (omega arith))) in
+    let is = ap (lineRead w) (start .line-start .ensures) ∙ sym (line-of w (L .k) (omega arith)) in
+    let line = ap (λ (l : Line). lastEnd (tableOf (entry .args .t .now)) (lineOf l) (L .last)) is in
     let many = build-length (lineAt w) resources in
     (omega arith, lines-next _ (linesRead w) (entry .args .time) (L .k) (L .last) (L .inv .1) _ (omega (arith, many)) (c .last-end .ensures ∙ line))
 
@@ -49,4 +57,4 @@ pub lines-end-spec : {M : Type 1} → statement M
 lines-end-spec =
     tie.close
     (tie.spec
-    Inv-loop μ-loop loop-holds (λ c. omega arith) (λ c. omega arith) last-end-requires (λ c. omega arith) (λ c. omega arith) loop-again returns)
+    Inv-loop μ-loop loop-holds (λ c κs. omega arith) last-end-requires (λ c. omega arith) (λ c. omega arith) loop-again returns)

@@ -25,31 +25,29 @@ abbrev μ-loop : tie.MeasureT-loop
 loop-holds : tie.Need-loop-holds Inv-loop μ-loop
 loop-holds c = (omega arith, refl)
 
-add-read-use : tie.Need-add-read-use Inv-loop μ-loop
-add-read-use c = omega (arith, c .before .before .before .before .before .pre .1 .1 .count)
-
-mul-read-use : tie.Need-mul-read-use Inv-loop μ-loop
-mul-read-use c = omega (arith, c .before .before .before .before .before .pre .1 .1 .count)
-
-add-read-use-2 : tie.Need-add-read-use-2 Inv-loop μ-loop
-add-read-use-2 c = omega (arith, c .before .before .before .before .before .pre .1 .1 .count)
-
-read-use-requires : tie.Need-read-use-requires Inv-loop μ-loop
-read-use-requires c κs = omega (arith, c .before .before .before .before .before .pre .1 .1 .count)
+use-at-requires : tie.Need-use-at-requires Inv-loop μ-loop
+use-at-requires c κs =
+    let turn = c .before in
+    let entry = turn .before .before .before .before in
+    (entry .pre .1 .0, omega (arith, entry .pre .1 .1 .count))
 
 mark-over-requires : tie.Need-mark-over-requires Inv-loop μ-loop
 mark-over-requires c κs =
-    let entry = c .before .before .before .before .before .before in
-    (entry .pre .0 .0, use-low (entry .pre .1 .1) (c .before .loop-test .taken) (c .read-use .ensures), entry .pre .0 .1, entry .pre .0 .2)
+    let inside = c .before in
+    let turn = inside .before in
+    let entry = turn .before .before .before .before in
+    (entry .pre .0 .0, use-low (entry .pre .1 .1) (inside .loop-test .taken) (c .use-at .ensures), entry .pre .0 .1, entry .pre .0 .2)
 
 loop-again : tie.Need-loop-again Inv-loop μ-loop
 loop-again c =
-    let turn = c .before .before .before in
+    let read = c .before in
+    let inside = read .before in
+    let turn = inside .before in
     let entry = turn .before .before .before .before in
     let L = turn .loop in
     let A = entry .args in
     let f = wordIn (A .w .now) in
-    let next = use-next f (A .at) (entry .pre .1 .1 .count) (L .k) _ (c .before .before .loop-test .taken) (c .before .read-use .ensures) in
+    let next = use-next f (A .at) (entry .pre .1 .1 .count) (L .k) _ (inside .loop-test .taken) (read .use-at .ensures) in
     (omega arith, mark-next _ _ (lineOf (lineRead f (A .at))) (A .from) (A .to) 32 (L .k) (L .mark) (L .inv .1) _ _ next (c .mark-over .ensures))
 
 returns : tie.Need-returns Inv-loop μ-loop
@@ -66,5 +64,5 @@ pub mark-at-spec : {M : Type 1} → statement M
 mark-at-spec =
     tie.close
     (tie.spec
-    Inv-loop μ-loop (λ c. omega arith) (λ c. omega arith) (λ c. omega arith) loop-holds add-read-use mul-read-use add-read-use-2
-    read-use-requires mark-over-requires (λ c. omega arith) (λ c. omega arith) loop-again returns)
+    Inv-loop μ-loop (λ c. omega arith) (λ c. omega arith) (λ c. omega arith) loop-holds use-at-requires
+    mark-over-requires (λ c. omega arith) (λ c. omega arith) loop-again returns)

@@ -20,7 +20,12 @@ loop-holds : tie.Need-loop-holds Inv-loop μ-loop
 loop-holds c = (omega arith, allBelow-none _)
 
 loop-again : tie.Need-loop-again Inv-loop μ-loop
-loop-again c = let L = c .before .before .before .loop in (omega arith, allBelow-next _ (L .k) (L .ok) _ (L .inv .1) (c .is-marked .ensures ∙ ap (isMarked (c .before .before .before .before .word .result) (L .k)) (c .before .word2 .ensures)))
+loop-again c =
+    let read = c .before in
+    let turn = read .before .before in
+    let L = turn .loop in
+    let is = c .is-marked .ensures ∙ ap (isMarked (turn .before .word .result) (L .k)) (read .word2 .ensures) in
+    (omega arith, allBelow-next _ (L .k) (L .ok) _ (L .inv .1) is)
 
 returns : tie.Need-returns Inv-loop μ-loop
 unfolding allMarked

@@ -21,7 +21,10 @@ loop-holds : tie.Need-loop-holds Inv-loop μ-loop
 loop-holds c = (omega arith, ap (replicate 16) (c .new-job .ensures) ∙ filled-none _ 16 _, search needs)
 
 loop-again : tie.Need-loop-again Inv-loop μ-loop
-loop-again c = let L = c .before .before .loop in (omega arith, filled-next _ 16 _ (L .next) (L .k) _ (L .inv .1) (omega arith) (c .job-at .ensures), simp length-set (omega arith))
+loop-again c =
+    let L = c .before .before .loop in
+    let stored = filled-next _ 16 _ (L .next) (L .k) _ (L .inv .1) (omega arith) (c .job-at .ensures) in
+    (omega arith, stored, simp length-set (omega arith))
 
 returns : tie.Need-returns Inv-loop μ-loop
 returns c = let L = c .before .loop in filled-done _ 16 _ (L .next) (L .k) (L .inv .1) (omega arith)

@@ -4,7 +4,9 @@ use mathlib.Core.Path.{_≡_, sym, _∙_, ap}
 use mathlib.Core.Logic.{⊎-elim}
 use native.Mathlib.Omega.{arith}
 use lib.ListN.{length}
+use Rattle.spec_plain.specs.Limits.{mostUses}
 use Rattle.spec_plain.specs.declared.Put.{Put}
+use Rattle.part_boardwords.specs.Layout.{lineStart}
 use Rattle.part_boardwords.specs.Words.{wordIn}
 use Rattle.part_boardwords.proofs.Boards.{held-size}
 use Rattle.part_drafts.specs.Moment.{lineThen}
@@ -13,47 +15,68 @@ use Rattle.part_drafts.proofs.moment.number_in.Statement.{statement}
 use Rattle.part_drafts.proofs.moment.number_in.Tie as tie
 
 abbrev Inv-loop : tie.InvT-loop
-Inv-loop w puts k resource n₀ j₀ n j = (j ≤ k) × (n ≤ 32 + j) × ((x : ℕ) → n ≡ length (lineThen x w puts j resource))
+Inv-loop w puts k resource n₀ j₀ n j = (j ≤ k) × (n ≤ mostUses + j) × ((x : ℕ) → n ≡ length (lineThen x w puts j resource))
 
 abbrev μ-loop : tie.MeasureT-loop
 μ-loop w puts k resource n₀ j₀ n j = k - j
 
 cast-n : tie.Need-cast-n Inv-loop μ-loop
-cast-n c = omega (arith, words-few (c .before .before .before .args .w .now) (c .before .before .before .pre .1) (c .before .before .before .args .resource) (c .before .before .before .pre .3))
+cast-n c =
+    let start = c .before in
+    let entry = start .before .before .before in
+    let A = entry .args in
+    let few = words-few (A .w .now) (entry .pre .1) (A .resource) (entry .pre .3) in
+    omega (arith, few, ap (wordIn (A .w .now)) (start .line-start .ensures))
 
 loop-holds : tie.Need-loop-holds Inv-loop μ-loop
 loop-holds c =
-    let A = c .before .before .before .args in
-    let p = c .before .before .before .pre in
-    let few = words-few (A .w .now) (p .1) (A .resource) (p .3) in (
+    let start = c .before in
+    let entry = start .before .before .before in
+    let A = entry .args in
+    let p = entry .pre in
+    let w = wordIn (A .w .now) in
+    let few = words-few (A .w .now) (p .1) (A .resource) (p .3) in
+    let count = ap w (start .line-start .ensures) in (
       omega arith,
-      omega (arith, few),
-      λ x. sym (ap length (then-none x (A .w .now) (A .puts .now) (A .resource) (p .3)) ∙ held-size (wordIn (A .w .now)) _ few),
+      omega (arith, few, count),
+      λ x. count ∙ sym (ap length (then-none x (A .w .now) (A .puts .now) (A .resource) (p .3)) ∙ held-size w (lineStart (A .resource)) few),
     )
 
 read-put-requires : tie.Need-read-put-requires Inv-loop μ-loop
-read-put-requires c κs = omega (arith, c .before .before .before .before .before .pre .2 .there)
+read-put-requires c κs =
+    let turn = c .before in
+    let entry = turn .before .before .before .before .before in
+    omega (arith, entry .pre .2 .there)
 
-add-n-2 : tie.Need-add-n-2 Inv-loop μ-loop
-add-n-2 c = omega (arith, c .before .before .before .before .loop .inv .1, c .before .before .before .before .before .before .before .before .pre .2 .few)
+add-n : tie.Need-add-n Inv-loop μ-loop
+add-n c =
+    let turn = c .before .before .before .before in
+    let entry = turn .before .before .before .before .before in
+    omega (arith, turn .loop .inv .1, entry .pre .2 .few)
 
 loop-again : tie.Need-loop-again Inv-loop μ-loop
 loop-again c =
-    let A = c .before .before .before .before .before .before .before .before .args in
-    let p = c .before .before .before .before .before .before .before .before .pre in
-    let L = c .before .before .before .before .loop in
-    let is = ap (λ (q : Put). q .resource) (c .before .before .read-put .ensures) in (
+    let read = c .before .before in
+    let turn = read .before .before in
+    let entry = turn .before .before .before .before .before in
+    let A = entry .args in
+    let p = entry .pre in
+    let L = turn .loop in
+    let W = A .w .now in
+    let is = ap (λ (q : Put). q .resource) (read .read-put .ensures) in (
       omega arith,
       ⊎-elim (λ v. omega (arith, v .1, L .inv .1)) (λ v. omega (arith, v .1, L .inv .1)) (c .if1 .came),
       λ x.
-          ⊎-elim (λ v. omega (arith, v .1, L .inv .2 x, then-long x (A .w .now) (A .puts .now) (L .j) (A .resource) (sym is ∙ v .0 .taken) (p .3)))
-          (λ v. omega (arith, v .1, L .inv .2 x, ap length (then-other x (A .w .now) (A .puts .now) (L .j) (A .resource) (λ e. v .0 .left (is ∙ e))))) (c .if1 .came),
+          ⊎-elim (λ v. omega (arith, v .1, L .inv .2 x, then-long x W (A .puts .now) (L .j) (A .resource) (sym is ∙ v .0 .taken) (p .3)))
+          (λ v. omega (arith, v .1, L .inv .2 x, ap length (then-other x W (A .puts .now) (L .j) (A .resource) (λ e. v .0 .left (is ∙ e)))))
+          (c .if1 .came),
     )
 
 returns : tie.Need-returns Inv-loop μ-loop
 returns c =
-    let A = c .before .before .before .before .before .args in
-    let L = c .before .loop in
+    let turn = c .before in
+    let A = turn .before .before .before .before .before .args in
+    let L = turn .loop in
     let end : L .j ≡ A .k = omega arith in
     λ x. L .inv .2 x ∙ ap (λ (j : ℕ). length (lineThen x (A .w .now) (A .puts .now) j (A .resource))) end
 
@@ -61,5 +84,5 @@ pub number-in-spec : {M : Type 1} → statement M
 number-in-spec =
     tie.close
     (tie.spec
-    Inv-loop μ-loop (λ c. omega arith) (λ c. omega arith) (λ c. omega arith) (λ c. omega arith) cast-n loop-holds read-put-requires add-n-2
-    (λ c. omega arith) (λ c. omega arith) loop-again returns)
+    Inv-loop μ-loop (λ c κs. omega arith) (λ c. omega arith) (λ c. omega (arith, c .before .line-start .ensures)) cast-n
+    loop-holds read-put-requires add-n (λ c. omega arith) (λ c. omega arith) loop-again returns)

@@ -9,7 +9,7 @@ use Rattle.spec_plain.specs.Plain.{noUse, usedFrom}
 use Rattle.spec_plain.specs.declared.Put.{Put}
 use Rattle.spec_plain.specs.declared.Use.{Use}
 use Rattle.part_lines.specs.Asked.{Lined}
-use Rattle.part_boardwords.specs.Layout.{usesIn, lineStart}
+use Rattle.part_boardwords.specs.Layout.{lineStart}
 use Rattle.part_boardwords.specs.Words.{wordIn, useAt, linesRead}
 use Rattle.part_drafts.specs.Moment.{lineThen}
 use Rattle.part_drafts.proofs.Moments.{Sought, look-other, look-here, look-behind, look-before, look-words}
@@ -29,82 +29,102 @@ down w x puts r j at {u = u} s h = subst (λ (i : ℕ). Sought x w puts r u i at
 -- after the last turn the use is one of the words
 found :
     {x : ℕ} {w puts : List ℕ} {r : ℕ} {u : Use} {j at : ℕ} → Sought x w puts r u j at → j ≤ 0 → r < resources → Lined (linesRead (wordIn w))
-    → (at < 32) × (u ≡ useAt (wordIn w) (lineStart r + usesIn) at)
+    → (at < 32) × (u ≡ useAt (wordIn w) (lineStart r) at)
 found {x = x} {w = w} {puts = puts} {r = r} {u = u} {j = j} {at = at} s h =
     look-words (subst (λ (i : ℕ). Sought x w puts r u i at) {x = j} {y = 0} (omega arith) s)
 
 loop-holds : tie.Need-loop-holds Inv-loop μ-loop
 loop-holds c =
-    let p = c .before .before .pre in
-    (omega arith, record { fits = p .1 .0; below = p .1 .1; is = refl })
+    let entry = c .before .before in
+    (omega arith, record { fits = entry .pre .1 .0; below = entry .pre .1 .1; is = refl })
 
 read-put-requires : tie.Need-read-put-requires Inv-loop μ-loop
-read-put-requires c κs = omega (arith, c .before .before .before .before .pre .0 .2 .there)
+read-put-requires c κs =
+    let entry = c .before .before .before .before in
+    omega (arith, entry .pre .0 .2 .there)
 
 used-from-requires : tie.Need-used-from-requires Inv-loop μ-loop
 used-from-requires c κs =
-    let p = c .before .before .before .before .before .before .before .before .before .pre in
-    let L = c .before .before .before .before .before .before .loop in
-    (p .0 .4, omega (arith, ap (λ (q : Put). q .step) (c .before .before .before .before .read-put .ensures), p .0 .2 .each (L .j - 1) (omega arith) .step))
+    let read = c .before .before .before .before in
+    let turn = read .before .before in
+    let p = turn .before .before .before .pre in
+    let step = ap (λ (q : Put). q .step) (read .read-put .ensures) in
+    (p .0 .4, omega (arith, step, p .0 .2 .each (turn .loop .j - 1) (omega arith) .step))
 
 returns : tie.Need-returns Inv-loop μ-loop
 returns c =
-    let A = c .before .before .before .before .before .before .before .before .before .before .args in
-    let L = c .before .before .before .before .before .before .before .loop in
+    let here = c .before in
+    let own = here .before .before in
+    let read = own .before .before in
+    let turn = read .before .before in
+    let entry = turn .before .before .before in
+    let A = entry .args in
+    let L = turn .loop in
     let s = down (A .w .now) (A .first) (A .puts .now) (A .resource) (L .j) (L .at) (L .inv .1) (omega arith) in
-    let put = c .before .before .before .before .before .read-put .ensures in
-    c .used-from .ensures
-    ∙ ap (usedFrom (A .first)) put
-    ∙ sym (look-here (L .j - 1) s (sym (ap (λ (q : Put). q .resource) put) ∙ c .before .before .before .if1 .taken) (c .before .before .before .before .before .before .before .before .before .before .pre .0 .3) (sym (ap (λ (q : Put). q .place) put) ∙ c .before .if2 .taken))
+    let put = read .read-put .ensures in
+    let resource = sym (ap (λ (q : Put). q .resource) put) ∙ own .if1 .taken in
+    let place = sym (ap (λ (q : Put). q .place) put) ∙ here .if2 .taken in
+    c .used-from .ensures ∙ ap (usedFrom (A .first)) put ∙ sym (look-here (L .j - 1) s resource (entry .pre .0 .3) place)
 
 loop-again : tie.Need-loop-again Inv-loop μ-loop
 loop-again c =
-    let A = c .before .before .before .before .before .before .before .before .before .before .args in
-    let L = c .before .before .before .before .before .before .before .loop in
+    let own = c .before .before .before in
+    let read = own .before .before in
+    let turn = read .before .before in
+    let entry = turn .before .before .before in
+    let A = entry .args in
+    let L = turn .loop in
     let s = down (A .w .now) (A .first) (A .puts .now) (A .resource) (L .j) (L .at) (L .inv .1) (omega arith) in
-    let put = c .before .before .before .before .before .read-put .ensures in
-    (omega arith, look-behind (L .j - 1) s (sym (ap (λ (q : Put). q .resource) put) ∙ c .before .before .before .if1 .taken) (c .before .before .before .before .before .before .before .before .before .before .pre .0 .3) (omega (arith, ap (λ (q : Put). q .place) put, c .if3 .taken)))
+    let put = read .read-put .ensures in
+    let resource = sym (ap (λ (q : Put). q .resource) put) ∙ own .if1 .taken in
+    let place = ap (λ (q : Put). q .place) put in
+    (omega arith, look-behind (L .j - 1) s resource (entry .pre .0 .3) (omega (arith, place, c .if3 .taken)))
 
 loop-again-2 : tie.Need-loop-again-2 Inv-loop μ-loop
 loop-again-2 c =
-    let A = c .before .before .before .before .before .before .before .before .before .before .args in
-    let L = c .before .before .before .before .before .before .before .loop in
+    let not-here = c .before in
+    let own = not-here .before .before in
+    let read = own .before .before in
+    let turn = read .before .before in
+    let entry = turn .before .before .before in
+    let A = entry .args in
+    let L = turn .loop in
     let s = down (A .w .now) (A .first) (A .puts .now) (A .resource) (L .j) (L .at) (L .inv .1) (omega arith) in
-    let put = c .before .before .before .before .before .read-put .ensures in
-    (omega arith, look-before (L .j - 1) s (sym (ap (λ (q : Put). q .resource) put) ∙ c .before .before .before .if1 .taken) (c .before .before .before .before .before .before .before .before .before .before .pre .0 .3) (omega (arith, ap (λ (q : Put). q .place) put, c .if3 .left, c .before .if2 .left)))
+    let put = read .read-put .ensures in
+    let resource = sym (ap (λ (q : Put). q .resource) put) ∙ own .if1 .taken in
+    let place = ap (λ (q : Put). q .place) put in
+    (omega arith, look-before (L .j - 1) s resource (entry .pre .0 .3) (omega (arith, place, c .if3 .left, not-here .if2 .left)))
 
 loop-again-3 : tie.Need-loop-again-3 Inv-loop μ-loop
 loop-again-3 c =
-    let A = c .before .before .before .before .before .before .before .args in
-    let L = c .before .before .before .before .loop in
+    let read = c .before .before in
+    let turn = read .before .before in
+    let A = turn .before .before .before .args in
+    let L = turn .loop in
     let s = down (A .w .now) (A .first) (A .puts .now) (A .resource) (L .j) (L .at) (L .inv .1) (omega arith) in
-    let put = c .before .before .read-put .ensures in
-    (omega arith, look-other (L .j - 1) s (λ e. c .if1 .left (ap (λ (q : Put). q .resource) put ∙ e)))
+    (omega arith, look-other (L .j - 1) s (λ e. c .if1 .left (ap (λ (q : Put). q .resource) (read .read-put .ensures) ∙ e)))
 
-mul-read-use-2 : tie.Need-mul-read-use-2 Inv-loop μ-loop
-mul-read-use-2 c =
-    let at = found (c .before .loop .inv .1) (omega arith) (c .before .before .before .before .pre .0 .3) (c .before .before .before .before .pre .0 .1) in
-    omega (arith, at .0)
-
-add-read-use-3 : tie.Need-add-read-use-3 Inv-loop μ-loop
-add-read-use-3 c =
-    let at = found (c .before .loop .inv .1) (omega arith) (c .before .before .before .before .pre .0 .3) (c .before .before .before .before .pre .0 .1) in
-    omega (arith, at .0)
-
-read-use-requires : tie.Need-read-use-requires Inv-loop μ-loop
-read-use-requires c κs =
-    let at = found (c .before .loop .inv .1) (omega arith) (c .before .before .before .before .pre .0 .3) (c .before .before .before .before .pre .0 .1) in
-    omega (arith, at .0, c .before .before .before .before .pre .0 .0)
+use-at-requires : tie.Need-use-at-requires Inv-loop μ-loop
+use-at-requires c κs =
+    let turn = c .before .before in
+    let p = turn .before .before .before .pre in
+    let at = found (turn .loop .inv .1) (omega arith) (p .0 .3) (p .0 .1) in
+    (omega (arith, c .line-start .ensures, p .0 .0, p .0 .3), at .0)
 
 returns-2 : tie.Need-returns-2 Inv-loop μ-loop
 returns-2 c =
-    let at = found (c .before .before .loop .inv .1) (omega arith) (c .before .before .before .before .before .pre .0 .3) (c .before .before .before .before .before .pre .0 .1) in
-    c .read-use .ensures ∙ sym (at .1)
+    let start = c .before in
+    let turn = start .before .before in
+    let entry = turn .before .before .before in
+    let p = entry .pre in
+    let L = turn .loop in
+    let at = found (L .inv .1) (omega arith) (p .0 .3) (p .0 .1) in
+    c .use-at .ensures ∙ ap (λ (i : ℕ). useAt (wordIn (entry .args .w .now)) i (L .at)) (start .line-start .ensures) ∙ sym (at .1)
 
 pub use-in-spec : {M : Type 1} → statement M
 use-in-spec =
     tie.close
     (tie.spec
     Inv-loop μ-loop loop-holds (λ c. omega arith) read-put-requires (λ c. omega arith) used-from-requires returns (λ c. omega arith)
-    (λ c. omega arith) loop-again (λ c. omega arith) loop-again-2 (λ c. omega arith) loop-again-3 (λ c. omega arith) (λ c. omega arith)
-    (λ c. omega arith) mul-read-use-2 add-read-use-3 read-use-requires returns-2)
+    (λ c. omega arith) loop-again (λ c. omega arith) loop-again-2 (λ c. omega arith) loop-again-3 (λ c κs. omega arith)
+    use-at-requires returns-2)

@@ -13,14 +13,14 @@ use Rattle.part_jobwords.proofs.Changes.{add-front}
 use Rattle.part_jobwords.proofs.changing.add_job.Statement.{statement}
 use Rattle.part_jobwords.proofs.changing.add_job.Tie as tie
 
-clear-requires : tie.Need-clear-requires
-clear-requires c κs = simp length-set (omega arith, omega arith)
+clear-jobs-requires : tie.Need-clear-jobs-requires
+clear-jobs-requires c κs = simp length-set (omega arith, omega arith)
 
 same-length : tie.Need-same-length
 same-length c =
     let cleared = c .before .before in
     let written = cleared .before .before .before .before in
-    omega (arith, stored-length (written .put-job .last .0) _ countAt _ _ _ (cleared .clear .ensures))
+    omega (arith, stored-length (written .put-job .last .0) _ countAt _ _ _ (cleared .clear-jobs .ensures))
 
 returns : tie.Need-returns
 returns c =
@@ -31,11 +31,11 @@ returns c =
     let A = entry .args in
     let W = A .w .now in
     let is = written .put-job .ensures ∙ ap (λ (j : Job). put W (jobStart (wordIn W countAt)) (jobWords j)) (made .new-job .ensures) in
-    add-front W (written .put-job .last .0) _ (newJob (A .points) (A .batch)) (omega arith) (omega arith) (entry .pre .2) is (cleared .clear .ensures)
+    add-front W (written .put-job .last .0) _ (newJob (A .points) (A .batch)) (omega arith) (omega arith) (entry .pre .2) is (cleared .clear-jobs .ensures)
 
 pub add-job-spec : {M : Type 1} → statement M
 add-job-spec =
     tie.close
     (tie.spec
-    (λ c. search needs) (λ c. search needs) (λ c. search needs) (λ c. search needs) (λ c. search needs) (λ c κs. search needs)
-    (λ c κs. search needs) (λ c. search needs) (λ c. search needs) (λ c. search needs) (λ c. search needs) clear-requires same-length returns)
+    (λ c. search needs) (λ c. search needs) (λ c. search needs) (λ c κs. search needs) (λ c κs. search needs) (λ c. search needs)
+    (λ c. search needs) clear-jobs-requires same-length returns)

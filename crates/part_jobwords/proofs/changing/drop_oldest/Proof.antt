@@ -9,19 +9,27 @@ use Rattle.part_jobwords.proofs.changing.drop_oldest.Statement.{stateme
 use Rattle.part_jobwords.proofs.changing.drop_oldest.Tie as tie
 use Rattle.part_boardwords.specs.Layout.{countAt}
 
-clear-requires : tie.Need-clear-requires
-clear-requires c κs = simp length-set (omega arith, omega arith)
+clear-jobs-requires : tie.Need-clear-jobs-requires
+clear-jobs-requires c κs = simp length-set (omega arith, omega arith)
 
 same-length : tie.Need-same-length
-same-length c = omega (arith, stored-length (c .before .before .before .before .before .before .move-down .last .0) _ countAt _ _ _ (c .before .before .clear .ensures))
+same-length c =
+    let cleared = c .before .before in
+    let moved = cleared .before .before .before .before in
+    omega (arith, stored-length (moved .move-jobs-down .last .0) _ countAt _ _ _ (cleared .clear-jobs .ensures))
 
 returns : tie.Need-returns
-returns c = let w = c .before .before .before .before .before .before .before .before .before .before .args .w .now in
-    left-front w (c .before .before .before .before .before .before .move-down .last .0) _ (getD w countAt 0 - 1) (omega arith) (omega arith) (omega arith) (c .before .before .before .before .before .before .before .before .before .before .pre .3) (c .before .before .before .before .before .before .move-down .ensures) (c .before .before .clear .ensures)
+returns c =
+    let cleared = c .before .before in
+    let moved = cleared .before .before .before .before in
+    let entry = moved .before .before .before .before in
+    let w = entry .args .w .now in
+    left-front w (moved .move-jobs-down .last .0) _ (getD w countAt 0 - 1) (omega arith) (omega arith) (omega arith) (entry .pre .3)
+    (moved .move-jobs-down .ensures) (cleared .clear-jobs .ensures)
 
 pub drop-oldest-spec : {M : Type 1} → statement M
 drop-oldest-spec =
     tie.close
     (tie.spec
-    (λ c. search needs) (λ c. search needs) (λ c. search needs) (λ c. search needs) (λ c. search needs) (λ c κs. search needs)
-    (λ c. search needs) (λ c. search needs) clear-requires same-length returns)
+    (λ c. search needs) (λ c. search needs) (λ c. search needs) (λ c κs. search needs) (λ c. search needs) (λ c. search needs)
+    clear-jobs-requires same-length returns)

@@ -6,12 +6,15 @@ use Rattle.part_jobwords.proofs.changing.mark_sent.Statement.{statement
 use Rattle.part_jobwords.proofs.changing.mark_sent.Tie as tie
 
 returns : tie.Need-returns
-returns c = let A = c .before .before .before .before .before .before .before .before .before .before .args in
-    sent-front (A .w .now) (c .before .before .before .before .before .before .set-marks .last .0) _ (A .n) (omega arith) (omega arith) (c .before .before .before .before .before .before .set-marks .ensures) (c .before .before .clear .ensures)
+returns c =
+    let cleared = c .before .before in
+    let sent = cleared .before .before .before .before in
+    let entry = sent .before .before .before .before in
+    let A = entry .args in
+    sent-front (A .w .now) (sent .set-marks .last .0) _ (A .n) (omega arith) (omega arith) (sent .set-marks .ensures) (cleared .clear-jobs .ensures)
 
 pub mark-sent-spec : {M : Type 1} → statement M
 mark-sent-spec =
     tie.close
     (tie.spec
-    (λ c. search needs) (λ c. search needs) (λ c κs. search needs) (λ c. search needs) (λ c. search needs) (λ c κs. search needs)
-    (λ c. search needs) returns)
+    (λ c. search needs) (λ c. search needs) (λ c κs. search needs) (λ c κs. search needs) (λ c. search needs) returns)

@@ -7,19 +7,23 @@ use Rattle.part_jobwords.proofs.changing.put_clock.Statement.{statement
 use Rattle.part_jobwords.proofs.changing.put_clock.Tie as tie
 use Rattle.part_boardwords.specs.Layout.{clockAt}
 
-clear-requires : tie.Need-clear-requires
-clear-requires c κs = simp length-set (omega arith, omega arith)
+clear-jobs-requires : tie.Need-clear-jobs-requires
+clear-jobs-requires c κs = simp length-set (omega arith, omega arith)
 
 same-length : tie.Need-same-length
-same-length c = omega (arith, stored-length (c .before .before .before .before .before .before .args .w .now) _ clockAt _ _ _ (c .before .before .clear .ensures))
+same-length c =
+    let cleared = c .before .before in
+    let entry = cleared .before .before .before .before in
+    omega (arith, stored-length (entry .args .w .now) _ clockAt _ _ _ (cleared .clear-jobs .ensures))
 
 returns : tie.Need-returns
 returns c =
-    let A = c .before .before .before .before .before .before .args in
-    clock-front (A .w .now) _ (A .clock) (omega arith) (omega arith) (c .before .before .before .before .before .before .pre .2) (c .before .before .clear .ensures)
+    let cleared = c .before .before in
+    let entry = cleared .before .before .before .before in
+    let A = entry .args in
+    clock-front (A .w .now) _ (A .clock) (omega arith) (omega arith) (entry .pre .2) (cleared .clear-jobs .ensures)
 
 pub put-clock-spec : {M : Type 1} → statement M
 put-clock-spec =
     tie.close
-    (tie.spec
-    (λ c. search needs) (λ c. search needs) (λ c. search needs) (λ c. search needs) (λ c. search needs) clear-requires same-length returns)
+    (tie.spec (λ c. search needs) (λ c. search needs) (λ c. search needs) clear-jobs-requires same-length returns)

@@ -1,8 +1,9 @@
 -- `set_marks` meets its contract. After k turns the first k jobs are sent (`Listed`).
-use Prim.Native.Nat.{_≤_, _-_}
-use mathlib.Core.Path.{_≡_, refl}
+use Prim.Native.Nat.{ℕ, _+_, _≤_, _-_}
+use mathlib.Core.Path.{_≡_, refl, sym, subst}
 use native.Mathlib.Omega.{arith}
-use lib.ListN.{length, length-set}
+use mathlib.Core.List.{List}
+use lib.ListN.{length}
 use Rattle.spec_plain.specs.Plain.{marked}
 use Rattle.part_lines.specs.Held.{jobsOf}
 use Rattle.part_boardwords.specs.Layout.{clockAt}
@@ -20,22 +21,31 @@ abbrev μ-loop : tie.MeasureT-loop
 μ-loop w₀ n k₀ w k = n - k
 
 loop-holds : tie.Need-loop-holds Inv-loop μ-loop
-loop-holds c = (omega arith, sent-none (c .args .w .now) (omega arith) (c .pre .3), refl)
+loop-holds c =
+    let entry = c .before in
+    (omega arith, sent-none (entry .args .w .now) (omega arith) (entry .pre .3), refl)
 
 loop-again : tie.Need-loop-again Inv-loop μ-loop
-loop-again c = let L = c .before .loop in
-    let A = c .before .before .args in
-    let held = held-jobs (wordIn (A .w .now)) (omega arith) in
-    (omega arith, sent-more (A .w .now) (L .w) _ (L .k) (jobsOf (heldJobs (wordIn (A .w .now)))) (omega arith) (omega (arith, held)) (L .inv .1), simp length-set (omega arith))
+loop-again c =
+    let stored = c .before .before in
+    let turn = stored .before .before .before in
+    let L = turn .loop in
+    let W = turn .before .before .args .w .now in
+    let js = jobsOf (heldJobs (wordIn W)) in
+    let held = held-jobs (wordIn W) (omega arith) in
+    let more = sent-more W (L .w) _ (L .k) js (omega arith) (omega (arith, held)) (L .inv .1) in
+    let next = subst (λ (x : List ℕ). Listed W x (wordIn W clockAt) (marked (L .k + 1) js)) (sym (stored .put-sent .ensures)) more in
+    (omega arith, next, omega arith)
 
 returns : tie.Need-returns Inv-loop μ-loop
-returns c = let L = c .before .loop in
-    let e : L .k ≡ c .before .before .args .n = omega arith in
+returns c =
+    let turn = c .before in
+    let L = turn .loop in
+    let e : L .k ≡ turn .before .before .args .n = omega arith in
     rw (← e) (L .inv .1)
 
 pub set-marks-spec : {M : Type 1} → statement M
 set-marks-spec =
     tie.close
     (tie.spec
-    Inv-loop μ-loop loop-holds (λ c. omega arith) (λ c. omega arith) (λ c. omega arith) (λ c. omega arith) (λ c. omega arith) (λ c. omega arith)
-    (λ c. omega arith) loop-again (λ c. omega arith) returns)
+    Inv-loop μ-loop loop-holds (λ c κs. omega arith) (λ c. omega arith) (λ c. omega arith) loop-again (λ c. omega arith) returns)

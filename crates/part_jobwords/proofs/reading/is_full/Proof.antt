@@ -1,5 +1,6 @@
 -- `is_full` meets its contract: with 16 jobs the first half of 14 holds, with fewer the second decides.
 use lib.Dec.{ltb}
+use Rattle.spec_plain.specs.Limits.{mostPoints}
 use Rattle.part_lines.specs.Held.{jobsOf}
 use Rattle.part_lines.proofs.JobLaws.{full-jobs, full-points}
 use Rattle.part_boardwords.specs.Words.{wordIn, heldJobs}
@@ -12,19 +13,25 @@ use Rattle.part_jobwords.proofs.reading.is_full.Statement.{statement}
 use Rattle.part_jobwords.proofs.reading.is_full.Tie as tie
 
 returns : tie.Need-returns
-returns c = let A = c .before .before .args in
+returns c =
+    let entry = c .before .before in
+    let A = entry .args in
     let w = wordIn (A .w .now) in
-    let held = held-jobs w (c .before .before .pre .1 .count) in
+    let held = held-jobs w (entry .pre .1 .count) in
     λ s e. full-jobs s (jobsOf (heldJobs w)) e (A .m) (omega (arith, held))
 
 add-result : tie.Need-add-result
-add-result c = omega (arith, c .before .before .pre .1 .points)
+add-result c =
+    let entry = c .before .before in
+    omega (arith, entry .pre .1 .points)
 
 returns-2 : tie.Need-returns-2
-returns-2 c = let A = c .before .before .args in
+returns-2 c =
+    let entry = c .before .before in
+    let A = entry .args in
     let w = wordIn (A .w .now) in
-    let held = held-jobs w (c .before .before .pre .1 .count) in
-    λ s e. ap (λ (x : ℕ). ltb 64 (x + A .m)) (c .before .before .pre .2) ∙ full-points s (jobsOf (heldJobs w)) e (A .m) (omega (arith, held))
+    let held = held-jobs w (entry .pre .1 .count) in
+    λ s e. ap (λ (x : ℕ). ltb mostPoints (x + A .m)) (entry .pre .2) ∙ full-points s (jobsOf (heldJobs w)) e (A .m) (omega (arith, held))
 
 pub is-full-spec : {M : Type 1} → statement M
-is-full-spec = tie.close (tie.spec (λ c. search needs) returns add-result returns-2)
+is-full-spec = tie.close (tie.spec (λ c. search needs) (λ c. search needs) returns (λ c. search needs) add-result returns-2)

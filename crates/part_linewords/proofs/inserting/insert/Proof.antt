@@ -20,7 +20,7 @@ returns c =
     let p = entry .pre in
     let W = A .w .now in
     let n = wordIn W (A .at) in
-    let up = moved .move-up .ensures in
+    let up = moved .move-uses-up .ensures in
     let there = stored .put-use .ensures in (
       line-inserted W _ _ (A .at) (A .place) n (A .u) (p .0 .0) (p .0 .1) (p .0 .2) up there refl (p .1),
       beside-line W _ _ (A .at) (A .place) n (A .u) (p .0 .0) (p .0 .1) (p .0 .2) up there,
@@ -30,6 +30,5 @@ pub insert-spec : {M : Type 1} → statement M
 insert-spec =
     tie.close
     (tie.spec
-    (λ c. search needs) (λ c. search needs) (λ c. search needs) (λ c. search needs) (λ c. search needs) (λ c. search needs) (λ c. search needs)
-    (λ c. search needs) (λ c. search needs) (λ c κs. search needs) (λ c κs. search needs) (λ c. search needs) (λ c. search needs)
-    (λ c. search needs) same-length returns)
+    (λ c. search needs) (λ c. search needs) (λ c. search needs) (λ c κs. search needs) (λ c κs. search needs) (λ c. search needs)
+    (λ c. search needs) (λ c. search needs) same-length returns)

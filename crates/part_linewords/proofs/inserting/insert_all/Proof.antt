@@ -21,13 +21,22 @@ loop-holds c =
     )
 
 read-put-requires : tie.Need-read-put-requires Inv-loop μ-loop
-read-put-requires c κs = let turn = c .before in
+read-put-requires c κs =
+    let turn = c .before in
     let entry = turn .before .before .before in
     omega (arith, entry .pre .0 .2 .there)
 
+line-start-requires : tie.Need-line-start-requires Inv-loop μ-loop
+line-start-requires c κs =
+    let read = c .before .before in
+    let turn = read .before .before in
+    let entry = turn .before .before .before in
+    let resource = ap (λ (q : Put). q .resource) (read .read-put .ensures) in
+    omega (arith, resource, entry .pre .0 .2 .each (turn .loop .k) (omega arith) .resource)
+
 used-from-requires : tie.Need-used-from-requires Inv-loop μ-loop
 used-from-requires c κs =
-    let read = c .before .before .before in
+    let read = c .before .before .before .before in
     let turn = read .before .before in
     let entry = turn .before .before .before in
     let step = ap (λ (q : Put). q .step) (read .read-put .ensures) in
@@ -35,28 +44,31 @@ used-from-requires c κs =
 
 insert-requires : tie.Need-insert-requires Inv-loop μ-loop
 insert-requires c κs =
-    let read = c .before .before .before .before in
+    let start = c .before .before in
+    let read = start .before .before .before in
     let turn = read .before .before in
     let entry = turn .before .before .before in
     let p = entry .pre in
     let L = turn .loop in
     let is = read .read-put .ensures in
-    let fits = next-fits (L .inv .1) (omega arith) (p .0 .2) _ is in
+    let at = start .line-start .ensures in
+    let fits = next-fits (L .inv .1) (omega arith) (p .0 .2) _ is _ at in
     let resource = ap (λ (q : Put). q .resource) is in
     let there = p .0 .2 .each (L .k) (omega arith) .resource in
-    ((omega (arith, p .0 .0, L .inv .1 .size, resource, there), fits .0, fits .1), fits .2)
+    ((omega (arith, p .0 .0, L .inv .1 .size, at, resource, there), fits .0, fits .1), fits .2)
 
 loop-again : tie.Need-loop-again Inv-loop μ-loop
 loop-again c =
     let put = c .before .before in
     let used = put .before in
-    let read = used .before .before .before .before in
+    let start = used .before .before in
+    let read = start .before .before .before in
     let turn = read .before .before in
     let entry = turn .before .before .before in
     let done = put .insert .ensures in (
       omega arith,
       next-in (turn .loop .inv .1) (omega arith) (entry .pre .0 .2) _ (read .read-put .ensures) _ (used .used-from .ensures) _ (omega arith)
-          (done .0) (done .1),
+          _ (start .line-start .ensures) (done .0) (done .1),
     )
 
 same-length : tie.Need-same-length Inv-loop μ-loop
@@ -71,5 +83,5 @@ pub insert-all-spec : {M : Type 1} → statement M
 insert-all-spec =
     tie.close
     (tie.spec
-    Inv-loop μ-loop loop-holds read-put-requires (λ c. omega arith) (λ c. omega arith) (λ c. omega arith) (λ c. omega arith) used-from-requires
-    insert-requires (λ c. omega arith) (λ c. omega arith) loop-again same-length returns)
+    Inv-loop μ-loop loop-holds read-put-requires (λ c. omega arith) line-start-requires (λ c. omega arith) used-from-requires insert-requires
+    (λ c. omega arith) (λ c. omega arith) loop-again same-length returns)

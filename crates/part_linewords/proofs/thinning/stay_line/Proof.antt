@@ -6,21 +6,27 @@ use Rattle.part_linewords.proofs.Thin.{stay-put}
 use Rattle.part_linewords.proofs.thinning.stay_line.Statement.{statement}
 use Rattle.part_linewords.proofs.thinning.stay_line.Tie as tie
 
-clear-requires : tie.Need-clear-requires
-clear-requires c κs = simp length-set (omega arith, omega arith)
+clear-uses-requires : tie.Need-clear-uses-requires
+clear-uses-requires c κs = simp length-set (omega arith, omega arith)
 
 same-length : tie.Need-same-length
-same-length c = omega (arith, length-set (c .before .before .before .before .before .before .stay-uses .last .0) (c .before .before .before .before .before .before .before .before .before .before .args .at) (c .before .before .before .before .before .before .stay-uses .result))
+same-length c =
+    let stayed = c .before .before .before .before .before .before in
+    let A = stayed .before .before .before .before .args in
+    omega (arith, length-set (stayed .stay-uses .last .0) (A .at) (stayed .stay-uses .result))
 
 returns : tie.Need-returns
-returns c = let A = c .before .before .before .before .before .before .before .before .before .before .args in
-    stay-put (A .f) (A .m) (A .w .now) (c .before .before .before .before .before .before .stay-uses .last .0) _ (A .at) (c .before .before .before .before .before .before .stay-uses .result) (omega arith) (omega arith) (omega arith)
-    (c .before .before .before .before .before .before .stay-uses .ensures .0) (c .before .before .before .before .before .before .stay-uses .ensures .1 .1) (c .before .before .clear .ensures)
+returns c =
+    let cleared = c .before .before in
+    let stayed = cleared .before .before .before .before in
+    let A = stayed .before .before .before .before .args in
+    let e = stayed .stay-uses .ensures in
+    stay-put (A .f) (A .m) (A .w .now) (stayed .stay-uses .last .0) _ (A .at) (stayed .stay-uses .result) (omega arith) (omega arith)
+    (omega arith) (e .0) (e .1 .1) (cleared .clear-uses .ensures)
 
 pub stay-line-spec : {M : Type 1} → statement M
 stay-line-spec =
     tie.close
     (tie.spec
-    (λ c. search needs) (λ c. search needs) (λ c. search needs) (λ c. search needs) (λ c κs. search needs) (λ c. search needs)
-    (λ c. search needs) (λ c. search needs) (λ c. search needs) (λ c. search needs) (λ c. search needs) (λ c. search needs) clear-requires
-    same-length returns)
+    (λ c. search needs) (λ c. search needs) (λ c. search needs) (λ c κs. search needs) (λ c. search needs) (λ c. search needs)
+    (λ c. search needs) clear-uses-requires same-length returns)

@@ -20,23 +20,37 @@ loop-holds : tie.Need-loop-holds Inv-loop μ-loop
 loop-holds c = (omega arith, put-none _ _ _, refl)
 
 stay-line-requires : tie.Need-stay-line-requires Inv-loop μ-loop
-stay-line-requires c κs = let L = c .before .before .loop in
-    let A = c .before .before .before .before .args in
-    (omega arith, lines-few (staysOf (A .f) (A .m)) (A .w .now) (L .w) (L .k) (L .inv .1) (omega arith) (c .before .before .before .before .pre .1 .0), omega arith)
+stay-line-requires c κs =
+    let turn = c .before .before .before in
+    let entry = turn .before .before in
+    let A = entry .args in
+    let L = turn .loop in
+    let stays = staysOf (A .f) (A .m) in
+    let few = lines-few stays (A .w .now) (L .w) (L .k) _ (L .inv .1) (omega arith) (c .line-start .ensures) (entry .pre .1 .0) in
+    (omega (arith, c .line-start .ensures), few, omega arith)
 
 loop-again : tie.Need-loop-again Inv-loop μ-loop
-loop-again c = let L = c .before .before .before .before .before .loop in
-    let A = c .before .before .before .before .before .before .before .args in
-    (omega arith, lines-turn (staysOf (A .f) (A .m)) (A .w .now) (L .w) _ (L .k) (L .inv .1) (omega arith) (c .before .before .stay-line .ensures), omega arith)
+loop-again c =
+    let stayed = c .before .before in
+    let start = stayed .before in
+    let turn = start .before .before .before in
+    let A = turn .before .before .args in
+    let L = turn .loop in
+    let stays = staysOf (A .f) (A .m) in
+    let next = lines-turn stays (A .w .now) (L .w) _ (L .k) _ (L .inv .1) (omega arith) (start .line-start .ensures) (stayed .stay-line .ensures) in
+    (omega arith, next, omega arith)
 
 returns : tie.Need-returns Inv-loop μ-loop
-returns c = let L = c .before .loop in
-    let A = c .before .before .before .args in
-    lines-done (staysOf (A .f) (A .m)) (A .w .now) (L .w) (L .k) _ (L .inv .1) (omega arith) (stayed-all (A .f) (A .m) (linesRead (wordIn (A .w .now))))
+returns c =
+    let turn = c .before in
+    let A = turn .before .before .args in
+    let L = turn .loop in
+    let all = stayed-all (A .f) (A .m) (linesRead (wordIn (A .w .now))) in
+    lines-done (staysOf (A .f) (A .m)) (A .w .now) (L .w) (L .k) _ (L .inv .1) (omega arith) all
 
 pub stay-lines-spec : {M : Type 1} → statement M
 stay-lines-spec =
     tie.close
     (tie.spec
-    Inv-loop μ-loop loop-holds (λ c. omega arith) (λ c. omega arith) stay-line-requires (λ c. omega arith) (λ c. omega arith) loop-again
-    (λ c. omega arith) returns)
+    Inv-loop μ-loop loop-holds (λ c κs. omega arith) stay-line-requires (λ c. omega arith) (λ c. omega arith) loop-again (λ c. omega arith)
+    returns)

@@ -13,35 +13,51 @@ use Rattle.part_linewords.proofs.thinning.stay_uses.Statement.{statemen
 use Rattle.part_linewords.proofs.thinning.stay_uses.Tie as tie
 
 abbrev Inv-loop : tie.InvT-loop
-Inv-loop w₀ at count f m next₀ k₀ w next k = (k ≤ count) × (next ≡ length (left f m w₀ at k)) × Thinned w₀ w at k (left f m w₀ at k) × (length w ≡ length w₀) × (next ≤ k)
+Inv-loop w₀ at count f m next₀ k₀ w next k = (k ≤ count)
+    × (next ≡ length (left f m w₀ at k))
+    × Thinned w₀ w at k (left f m w₀ at k)
+    × (length w ≡ length w₀)
+    × (next ≤ k)
 
 abbrev μ-loop : tie.MeasureT-loop
 μ-loop w₀ at count f m next₀ k₀ w next k = count - k
 
 loop-holds : tie.Need-loop-holds Inv-loop μ-loop
-loop-holds c = let A = c .before .args in (omega arith, thin-size (A .f) (A .m) (A .w .now) (A .at), thin-none (A .f) (A .m) (A .w .now) (A .at), refl, omega arith)
+loop-holds c =
+    let A = c .before .args in
+    (omega arith, thin-size (A .f) (A .m) (A .w .now) (A .at), thin-none (A .f) (A .m) (A .w .now) (A .at), refl, omega arith)
 
 add-next : tie.Need-add-next Inv-loop μ-loop
-add-next c = let A = c .before .before .before .before .before .before .before .before .before .before .before .args in omega (arith, c .stay-count .ensures, few-stay (A .f) (A .m) (c .before .before .before .before .before .before .read-use .result ∷ []))
+add-next c =
+    let read = c .before .before .before .before .before .before in
+    let A = read .before .before .before .before .before .args in
+    omega (arith, c .stay-count .ensures, few-stay (A .f) (A .m) (read .use-at .result ∷ []))
 
 loop-again : tie.Need-loop-again Inv-loop μ-loop
-loop-again c = let A = c .before .before .before .before .before .before .before .before .before .before .before .args in
-    let L = c .before .before .before .before .before .before .before .before .before .loop in
-    let u = c .before .before .before .before .before .before .read-use .result in
-    let turn =
-    thin-more (A .f) (A .m) (A .w .now) (A .at) (L .w) (c .before .before .before .put-use .last .0) (L .next) (L .k) u (c .before .before .before .before .stay-use .result) (c .stay-count .result)
-    (omega arith) (omega arith) (L .inv .1) (L .inv .2) (c .before .before .before .before .before .before .read-use .ensures) (c .before .before .before .before .stay-use .ensures) (c .stay-count .ensures)
-    (c .before .before .before .put-use .ensures) in (
+loop-again c =
+    let written = c .before .before .before in
+    let stayed = written .before in
+    let read = stayed .before .before in
+    let turn = read .before .before .before in
+    let A = turn .before .before .args in
+    let L = turn .loop in
+    let u = read .use-at .result in
+    let next =
+    thin-more (A .f) (A .m) (A .w .now) (A .at) (L .w) (written .put-use .last .0) (L .next) (L .k) u (stayed .stay-use .result)
+    (c .stay-count .result) (omega arith) (omega arith) (L .inv .1) (L .inv .2) (read .use-at .ensures) (stayed .stay-use .ensures)
+    (c .stay-count .ensures) (written .put-use .ensures) in (
       omega arith,
-      turn .0,
-      turn .1,
+      next .0,
+      next .1,
       omega arith,
       omega (arith, c .stay-count .ensures, few-stay (A .f) (A .m) (u ∷ [])),
     )
 
 returns : tie.Need-returns Inv-loop μ-loop
-returns c = let A = c .before .before .before .args in
-    let L = c .before .loop in
+returns c =
+    let turn = c .before in
+    let A = turn .before .before .args in
+    let L = turn .loop in
     let e : L .k ≡ A .count = omega arith in
     (rw (← e) (L .inv .1), (omega arith, rw (← e) (L .inv .2)))
 
@@ -49,6 +65,5 @@ pub stay-uses-spec : {M : Type 1} → statement M
 stay-uses-spec =
     tie.close
     (tie.spec
-    Inv-loop μ-loop loop-holds (λ c. omega arith) (λ c. omega arith) (λ c κs. omega arith) (λ c. omega arith) (λ c. omega arith)
-    (λ c κs. search needs) (λ c κs. omega arith) (λ c κs. search needs) add-next (λ c. omega arith) (λ c. omega arith) loop-again
-    (λ c. omega arith) returns)
+    Inv-loop μ-loop loop-holds (λ c κs. omega arith) (λ c κs. search needs) (λ c κs. omega arith) (λ c κs. search needs) add-next
+    (λ c. omega arith) (λ c. omega arith) loop-again (λ c. omega arith) returns)

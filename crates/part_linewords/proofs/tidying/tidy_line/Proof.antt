@@ -6,11 +6,13 @@ use Rattle.part_linewords.proofs.tidying.tidy_line.Statement.{statement
 use Rattle.part_linewords.proofs.tidying.tidy_line.Tie as tie
 
 returns : tie.Need-returns
-returns c = tidy-put (c .before .before .before .before .before .before .args .w .now) _ (c .before .before .before .before .before .before .args .at) (omega arith) (omega arith) (c .before .before .clear .ensures)
+returns c =
+    let cleared = c .before .before in
+    let entry = cleared .before .before .before .before in
+    let A = entry .args in
+    tidy-put (A .w .now) _ (A .at) (omega arith) (omega arith) (cleared .clear-uses .ensures)
 
 pub tidy-line-spec : {M : Type 1} → statement M
 tidy-line-spec =
     tie.close
-    (tie.spec
-    (λ c. search needs) (λ c. search needs) (λ c. search needs) (λ c. search needs) (λ c. search needs) (λ c. search needs) (λ c. search needs)
-    (λ c κs. search needs) (λ c. search needs) returns)
+    (tie.spec (λ c. search needs) (λ c. search needs) (λ c. search needs) (λ c κs. search needs) (λ c. search needs) returns)

@@ -20,20 +20,33 @@ loop-holds : tie.Need-loop-holds Inv-loop μ-loop
 loop-holds c = (omega arith, put-none _ _ _, refl)
 
 tidy-line-requires : tie.Need-tidy-line-requires Inv-loop μ-loop
-tidy-line-requires c κs = let L = c .before .before .loop in (omega arith, lines-few tidied (c .before .before .before .before .args .w .now) (L .w) (L .k) (L .inv .1) (omega arith) (c .before .before .before .before .pre .1))
+tidy-line-requires c κs =
+    let turn = c .before .before .before in
+    let entry = turn .before .before in
+    let L = turn .loop in
+    let few = lines-few tidied (entry .args .w .now) (L .w) (L .k) _ (L .inv .1) (omega arith) (c .line-start .ensures) (entry .pre .1) in
+    (omega (arith, c .line-start .ensures), few)
 
 loop-again : tie.Need-loop-again Inv-loop μ-loop
-loop-again c = let L = c .before .before .before .before .before .loop in
-    (omega arith, lines-turn tidied (c .before .before .before .before .before .before .before .args .w .now) (L .w) _ (L .k) (L .inv .1) (omega arith) (c .before .before .tidy-line .ensures), omega arith)
+loop-again c =
+    let tidied-line = c .before .before in
+    let start = tidied-line .before in
+    let turn = start .before .before .before in
+    let W = turn .before .before .args .w .now in
+    let L = turn .loop in
+    let next = lines-turn tidied W (L .w) _ (L .k) _ (L .inv .1) (omega arith) (start .line-start .ensures) (tidied-line .tidy-line .ensures) in
+    (omega arith, next, omega arith)
 
 returns : tie.Need-returns Inv-loop μ-loop
-returns c = let L = c .before .loop in
-    let w = c .before .before .before .args .w .now in
+returns c =
+    let turn = c .before in
+    let L = turn .loop in
+    let w = turn .before .before .args .w .now in
     lines-done tidied w (L .w) (L .k) _ (L .inv .1) (omega arith) (tidied-all (linesRead (wordIn w)))
 
 pub tidy-lines-spec : {M : Type 1} → statement M
 tidy-lines-spec =
     tie.close
     (tie.spec
-    Inv-loop μ-loop loop-holds (λ c. omega arith) (λ c. omega arith) tidy-line-requires (λ c. omega arith) (λ c. omega arith) loop-again
-    (λ c. omega arith) returns)
+    Inv-loop μ-loop loop-holds (λ c κs. omega arith) tidy-line-requires (λ c. omega arith) (λ c. omega arith) loop-again (λ c. omega arith)
+    returns)

@@ -24,20 +24,30 @@ loop-holds : tie.Need-loop-holds Inv-loop μ-loop
 loop-holds c = (omega arith, refl)
 
 loop-again : tie.Need-loop-again Inv-loop μ-loop
-loop-again c = let A = c .before .before .before .before .before .before .args in
-    let L = c .before .before .before .loop in (
-      omega arith,
-      all-next (sizedUse (A .n)) (lineOf (lineRead (wordIn (A .w .now)) (A .at))) (L .k) (L .ok) _ _ (L .inv .1) (use-next (wordIn (A .w .now)) (A .at) (c .before .before .before .before .before .before .pre .1) (L .k) _ (c .before .before .loop-test .taken) (c .before .read-use .ensures)) (c .is-use-sized .ensures),
-    )
+loop-again c =
+    let read = c .before in
+    let inside = read .before in
+    let turn = inside .before in
+    let entry = turn .before .before .before in
+    let A = entry .args in
+    let w = wordIn (A .w .now) in
+    let L = turn .loop in
+    let next = use-next w (A .at) (entry .pre .1) (L .k) _ (inside .loop-test .taken) (read .use-at .ensures) in
+    (omega arith, all-next (sizedUse (A .n)) (lineOf (lineRead w (A .at))) (L .k) (L .ok) _ _ (L .inv .1) next (c .is-use-sized .ensures))
 
 returns : tie.Need-returns Inv-loop μ-loop
-returns c = let A = c .before .before .before .before .args in
-    let L = c .before .loop in
-    all-end (sizedUse (A .n)) (lineOf (lineRead (wordIn (A .w .now)) (A .at))) (L .k) (L .ok) (L .inv .1) (use-over (wordIn (A .w .now)) (A .at) (c .before .before .before .before .pre .1) (L .k) (c .loop-test .left))
+returns c =
+    let turn = c .before in
+    let entry = turn .before .before .before in
+    let A = entry .args in
+    let w = wordIn (A .w .now) in
+    let L = turn .loop in
+    let over = use-over w (A .at) (entry .pre .1) (L .k) (c .loop-test .left) in
+    all-end (sizedUse (A .n)) (lineOf (lineRead w (A .at))) (L .k) (L .ok) (L .inv .1) over
 
 pub are-uses-sized-spec : {M : Type 1} → statement M
 are-uses-sized-spec =
     tie.close
     (tie.spec
-    Inv-loop μ-loop (λ c. omega arith) (λ c. omega arith) (λ c. omega arith) loop-holds (λ c. omega arith) (λ c. omega arith) (λ c. omega arith)
-    (λ c κs. omega arith) (λ c κs. search needs) (λ c. omega arith) (λ c. omega arith) loop-again returns)
+    Inv-loop μ-loop (λ c. omega arith) (λ c. omega arith) (λ c. omega arith) loop-holds (λ c κs. omega arith) (λ c κs. search needs)
+    (λ c. omega arith) (λ c. omega arith) loop-again returns)

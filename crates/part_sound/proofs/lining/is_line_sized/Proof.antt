@@ -12,7 +12,11 @@ returns c = fails _ (lt-leb _ _ (c .if1 .taken))
 
 returns-2 : tie.Need-returns-2
 unfolding sizedLine
-returns-2 c = passes (le-leb _ _ (c .before .if1 .left)) (c .are-uses-sized .ensures)
+returns-2 c =
+    let few = c .before in
+    passes (le-leb _ _ (few .if1 .left)) (c .are-uses-sized .ensures)
 
 pub is-line-sized-spec : {M : Type 1} → statement M
-is-line-sized-spec = tie.close (tie.spec (λ c. search needs) (λ c. search needs) returns (λ c κs. search needs) returns-2)
+is-line-sized-spec =
+    tie.close
+    (tie.spec (λ c. search needs) (λ c. search needs) (λ c. search needs) returns (λ c κs. search needs) returns-2)

@@ -1,19 +1,20 @@
--- `move_up` meets its contract. The words from k on have moved up by three.
+-- `move_up` meets its contract. The words from k on have moved up by a use.
 use mathlib.Core.Path.{_≡_, refl, _∙_, ap}
 use Prim.Native.Nat.{ℕ, _≤_, _-_, _+_}
 use native.Mathlib.Omega.{arith}
 use lib.ListN.{length, getD, length-set}
 use Rattle.base_lists.specs.Loops.{rewritten}
 use Rattle.base_lists.proofs.Rewritten.{rewritten-none, rewritten-below}
-use Rattle.part_linewords.proofs.InsertLaws.{store-down}
-use Rattle.part_linewords.proofs.inserting.move_up.Statement.{statement}
-use Rattle.part_linewords.proofs.inserting.move_up.Tie as tie
+use Rattle.part_boardwords.proofs.Moved.{store-down}
+use Rattle.part_boardwords.proofs.moving.move_up.Statement.{statement}
+use Rattle.part_boardwords.proofs.moving.move_up.Tie as tie
 use Rattle.part_boardwords.specs.Layout.{useSize}
+use Rattle.part_boardwords.specs.Words.{upByUse}
 
 abbrev Inv-loop : tie.InvT-loop
 Inv-loop w₀ from to k₀ w k = (from ≤ k)
     × (k ≤ to)
-    × (w ≡ rewritten (λ (i : ℕ). getD w₀ (i - useSize) 0) w₀ (k + useSize) (to + useSize))
+    × (w ≡ rewritten (upByUse w₀) w₀ (k + useSize) (to + useSize))
     × (length w ≡ length w₀)
 
 abbrev μ-loop : tie.MeasureT-loop
@@ -23,24 +24,29 @@ loop-holds : tie.Need-loop-holds Inv-loop μ-loop
 loop-holds c = (omega arith, omega arith, rewritten-none _ _ _ _ (omega arith), refl)
 
 loop-again : tie.Need-loop-again Inv-loop μ-loop
-loop-again c = let L = c .before .before .loop in
-    let A = c .before .before .before .args in
-    let f : ℕ → ℕ = λ i. getD (A .w .now) (i - useSize) 0 in
-    let read : getD (L .w) (L .k - 1) 0 ≡ getD (A .w .now) (L .k - 1) 0 =
-    rw (L .inv .2) (rewritten-below f (A .w .now) (L .k + useSize) (A .to + useSize) (L .k - 1) (omega arith)) in
+loop-again c =
+    let turn = c .before .before in
+    let L = turn .loop in
+    let A = turn .before .args in
+    let W = A .w .now in
+    let read : getD (L .w) (L .k - 1) 0 ≡ getD W (L .k - 1) 0 =
+    rw (L .inv .2) (rewritten-below (upByUse W) W (L .k + useSize) (A .to + useSize) (L .k - 1) (omega arith)) in
     let from : L .k - 1 ≡ L .k + (useSize - 1) - useSize = omega arith in
     let low : L .k - 1 + useSize ≡ L .k + (useSize - 1) = omega arith in (
       omega arith,
       omega arith,
       rw low
-          (store-down f (A .w .now) (L .w) (L .k + (useSize - 1)) (A .to + useSize) (L .k + useSize) _ (L .inv .2) (omega arith) (omega arith) (omega arith)
-          (read ∙ ap (λ (i : ℕ). getD (A .w .now) i 0) from)),
+          (store-down (upByUse W) W (L .w) (L .k + (useSize - 1)) (A .to + useSize) (L .k + useSize) _ (L .inv .2)
+          (omega arith) (omega arith) (omega arith)
+          (read ∙ ap (λ (i : ℕ). getD W i 0) from)),
       simp length-set (L .inv .3),
     )
 
 returns : tie.Need-returns Inv-loop μ-loop
-returns c = let L = c .before .loop in
-    let A = c .before .before .args in
+returns c =
+    let turn = c .before in
+    let L = turn .loop in
+    let A = turn .before .args in
     let e : L .k ≡ A .from = omega arith in
     rw (← e) (L .inv .2)
 
