@@ -1,6 +1,7 @@
 //! The fact check, timed on plants of 8 and of 128 actions. It has no table, so that there are only
-//! two forms: ours and the one in Rust.
+//! two forms: ours and the one in Rust; and another commit's library, where there is one.
 
+use crate::libraries::{Library, OtherCommit, ThisTree};
 use crate::ours;
 use crate::timing::median;
 use independent::fact_check;
@@ -14,8 +15,38 @@ const CALLS_A_TURN: usize = 100;
 
 type FactCheck = fn(&[u8], &[u8]) -> u32;
 
+/// One form, and the nanoseconds that a call took in each of its turns.
+struct Column {
+    form: FactCheck,
+    turns: Vec<f64>,
+}
+
 fn in_rust(plant: &[u8], offer: &[u8]) -> u32 {
     fact_check(plant, offer).number()
+}
+
+fn forms() -> Vec<FactCheck> {
+    let mut forms: Vec<FactCheck> = vec![ours::fact_check::<ThisTree>, in_rust];
+    if OtherCommit::CALLS.fact_check.is_some() {
+        forms.push(ours::fact_check::<OtherCommit>);
+    }
+    forms
+}
+
+impl Column {
+    fn new(form: FactCheck) -> Self {
+        let turns = Vec::new();
+        Column { form, turns }
+    }
+
+    fn take_turn(&mut self, plant: &[u8], offer: &[u8]) {
+        let start = Instant::now();
+        for _ in 0..CALLS_A_TURN {
+            black_box((self.form)(black_box(plant), black_box(offer)));
+        }
+        let nanoseconds = start.elapsed().as_nanos() as f64;
+        self.turns.push(nanoseconds / CALLS_A_TURN as f64);
+    }
 }
 
 /// A plant with four allocations in each action, and an offer of it that passes.
@@ -24,8 +55,8 @@ pub struct Check {
     pub steps: usize,
     plant: Vec<u8>,
     offer: Vec<u8>,
-    ours: Vec<f64>,
-    rust: Vec<f64>,
+    /// Ours, the one in Rust, and the other commit's where it can be called.
+    columns: Vec<Column>,
 }
 
 impl Check {
@@ -45,32 +76,27 @@ impl Check {
             steps: step_count,
             plant: plant_file(&actions),
             offer: OfferDraft::new(needs, makes, &actions, &chain).bytes(),
-            ours: Vec::new(),
-            rust: Vec::new(),
+            columns: forms().into_iter().map(Column::new).collect(),
         };
-        let forms: [FactCheck; 2] = [ours::fact_check, in_rust];
-        let numbers = forms.map(|form| form(&check.plant, &check.offer));
-        assert_eq!(numbers, [0; 2], "a chain that passes");
+        for column in &check.columns {
+            let number = (column.form)(&check.plant, &check.offer);
+            assert_eq!(number, 0, "a chain that passes");
+        }
         check
     }
 
-    /// Nanoseconds a call takes, over a turn.
-    fn turn(&self, form: FactCheck) -> f64 {
-        let start = Instant::now();
-        for _ in 0..CALLS_A_TURN {
-            black_box(form(black_box(&self.plant), black_box(&self.offer)));
-        }
-        start.elapsed().as_nanos() as f64 / CALLS_A_TURN as f64
-    }
-
     fn take_turns(&mut self) {
-        self.ours.push(self.turn(ours::fact_check));
-        self.rust.push(self.turn(in_rust));
+        for column in &mut self.columns {
+            column.take_turn(&self.plant, &self.offer);
+        }
     }
 
-    /// Microseconds of a call: ours, and the one in Rust.
-    pub fn microseconds(&mut self) -> [f64; 2] {
-        [&mut self.ours, &mut self.rust].map(|turns| median(turns) / 1_000.0)
+    /// Microseconds of a call, by column.
+    pub fn microseconds(&mut self) -> Vec<f64> {
+        let columns = self.columns.iter_mut();
+        columns
+            .map(|column| median(&mut column.turns) / 1_000.0)
+            .collect()
     }
 }
 

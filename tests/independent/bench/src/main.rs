@@ -1,8 +1,10 @@
 //! Times the product's calls through its C interface beside three forms in Rust, on the same inputs
-//! in one run: with the incremental table, with windows alone and with shortest paths from scratch.
+//! in one run: with the incremental table, with windows alone and with shortest paths from scratch;
+//! and beside another commit's library, where ./bench was told of one.
 
 mod checks;
 mod forms;
+mod libraries;
 mod ours;
 mod plain;
 mod scratch;
@@ -16,7 +18,7 @@ mod tests;
 
 use forms::Call;
 use show::TableRow;
-use timing::Case;
+use timing::{Case, Times};
 use work::{Work, JOB_POINTS};
 
 /// Blocks of ten rounds each (timing.rs).
@@ -47,13 +49,14 @@ fn case(work: &Work, name: &'static str, jobs: usize) -> Case {
 fn check_rows() -> Vec<TableRow> {
     let mut checks = checks::time();
     let rows = checks.iter_mut().map(|check| {
-        let [ours, incremental] = check.microseconds();
+        let times = check.microseconds();
         TableRow {
             call: "fact check",
             size: format!("{} of {} actions", check.steps, check.actions),
-            ours,
-            incremental,
+            ours: times[0],
+            incremental: times[1],
             others: None,
+            earlier: times.get(2).copied(),
         }
     });
     rows.collect()
@@ -67,14 +70,15 @@ fn board_cases(work: &Work) -> Vec<Case> {
     cases
 }
 
-fn board_row(case: &Case, [ours, incremental, windows, scratch]: [f64; 4]) -> TableRow {
+fn board_row(case: &Case, times: Times) -> TableRow {
     let ending = if case.jobs == 1 { "" } else { "s" };
     TableRow {
         call: case.name,
         size: format!("{} job{ending}", case.jobs),
-        ours,
-        incremental,
-        others: Some([windows, scratch]),
+        ours: times.ours,
+        incremental: times.incremental,
+        others: Some([times.windows, times.scratch]),
+        earlier: times.earlier,
     }
 }
 
@@ -82,8 +86,8 @@ fn chart_rows(work: &Work) -> Vec<(usize, f64, f64)> {
     let mut cases = CHART_JOBS.map(|jobs| case(work, "plan", jobs + 1));
     timing::run(&mut cases, CHART_BLOCKS);
     let rows = CHART_JOBS.iter().zip(&cases).map(|(jobs, case)| {
-        let [ours, _, _, scratch] = case.later_call();
-        (jobs * JOB_POINTS, ours, scratch)
+        let times = case.later_call();
+        (jobs * JOB_POINTS, times.ours, times.scratch)
     });
     rows.collect()
 }

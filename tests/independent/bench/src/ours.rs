@@ -1,35 +1,44 @@
-//! The product through its C interface (include/snipefeather.h), as a controller calls it.
-
-#[path = "../../c_calls.rs"]
-mod c_calls;
+//! The product through its C interface (include/snipefeather.h), as a controller calls it, with this
+//! tree's library or with another commit's.
 
 use crate::forms::{Call, Form};
-use c_calls::{sf_clock, sf_fact_check, sf_fresh, sf_plan, sf_report, sf_retire, sf_send, SfRow};
+use crate::libraries::{Library, OtherCommit, SfRow, ThisTree};
 use independent::board::{BOARD_WORDS, MOST_POINTS};
 use std::hint::black_box;
+use std::marker::PhantomData;
 
-pub fn fact_check(plant: &[u8], offer: &[u8]) -> u32 {
+const LACKING: &str = "a call that the library has";
+
+pub fn fact_check<L: Library>(plant: &[u8], offer: &[u8]) -> u32 {
+    let call = L::CALLS.fact_check.expect(LACKING);
     let (plant, plant_len) = (plant.as_ptr(), plant.len());
     let (offer, offer_len) = (offer.as_ptr(), offer.len());
     // SAFETY: both pointers are lent with the lengths of live slices, which the call only reads.
-    unsafe { sf_fact_check(plant, plant_len, offer, offer_len) }
+    unsafe { call(plant, plant_len, offer, offer_len) }
 }
 
 /// The words of a board.
 #[derive(Clone)]
-pub struct Ours(pub [u32; BOARD_WORDS]);
+pub struct Product<L> {
+    pub words: [u32; BOARD_WORDS],
+    library: PhantomData<L>,
+}
 
-impl Ours {
+pub type Ours = Product<ThisTree>;
+pub type Earlier = Product<OtherCommit>;
+
+impl<L: Library> Product<L> {
     fn plan(&mut self, plant: &[u8], offer: &[u8]) -> u32 {
+        let call = L::CALLS.plan.expect(LACKING);
         let mut cause = [0];
-        let (board, cause_len) = (self.0.as_mut_ptr(), cause.len());
+        let (board, cause_len) = (self.words.as_mut_ptr(), cause.len());
         let (plant, plant_len) = (plant.as_ptr(), plant.len());
         let (offer, offer_len) = (offer.as_ptr(), offer.len());
         let cause = cause.as_mut_ptr();
         // SAFETY: each pointer is lent with the length of a live array or slice of its own; the
         // board and the cause are borrowed as mutable, the other two are only read.
         unsafe {
-            sf_plan(
+            call(
                 board,
                 BOARD_WORDS,
                 plant,
@@ -43,34 +52,45 @@ impl Ours {
     }
 
     fn report(&self) -> u32 {
+        let call = L::CALLS.report.expect(LACKING);
         let mut rows = [SfRow::default(); MOST_POINTS];
-        let (board, list) = (self.0.as_ptr(), rows.as_mut_ptr());
+        let (board, list) = (self.words.as_ptr(), rows.as_mut_ptr());
         // SAFETY: each pointer is lent with the length of its live array; the board is only read.
-        let number = unsafe { sf_report(board, BOARD_WORDS, list, rows.len()) };
+        let number = unsafe { call(board, BOARD_WORDS, list, rows.len()) };
         black_box(&rows);
         number
     }
 }
 
-impl Form for Ours {
+impl<L: Library> Form for Product<L> {
     fn fresh(horizon: u32, lead: u32) -> Self {
+        let call = L::CALLS.fresh.expect(LACKING);
         let mut words = [0; BOARD_WORDS];
         // SAFETY: the pointer is lent with the length of its live array.
-        let number = unsafe { sf_fresh(words.as_mut_ptr(), BOARD_WORDS, horizon, lead) };
-        assert_eq!(number, 0, "a horizon and a lead in range");
-        Ours(words)
+        let number = unsafe { call(words.as_mut_ptr(), BOARD_WORDS, horizon, lead) };
+        assert_eq!(
+            number, 0,
+            "a horizon and a lead in range, and a board's words"
+        );
+        Product {
+            words,
+            library: PhantomData,
+        }
     }
 
     fn make(&mut self, call: &Call) -> u32 {
-        let words = self.0.as_mut_ptr();
+        let calls = L::CALLS;
+        let words = self.words.as_mut_ptr();
         match call {
             Call::Plan { plant, offer } => self.plan(plant, offer),
             // SAFETY: the pointer is lent with the length of its array, borrowed as mutable.
-            Call::Send { place } => unsafe { sf_send(words, BOARD_WORDS, *place) },
+            Call::Send { place } => unsafe {
+                calls.send.expect(LACKING)(words, BOARD_WORDS, *place)
+            },
             // SAFETY: the same.
-            Call::Clock { to } => unsafe { sf_clock(words, BOARD_WORDS, *to) },
+            Call::Clock { to } => unsafe { calls.clock.expect(LACKING)(words, BOARD_WORDS, *to) },
             // SAFETY: the same.
-            Call::Retire => unsafe { sf_retire(words, BOARD_WORDS) },
+            Call::Retire => unsafe { calls.retire.expect(LACKING)(words, BOARD_WORDS) },
             Call::Report => self.report(),
         }
     }

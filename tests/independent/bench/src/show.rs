@@ -1,5 +1,7 @@
 //! What is printed: the tables of times, and the chart of how plan grows.
 
+use crate::libraries::HAS_OTHER;
+
 /// Above this, ours is marked.
 const GOAL: f64 = 1.20;
 /// The longest bar of the chart, in characters.
@@ -13,6 +15,8 @@ pub struct TableRow {
     pub incremental: f64,
     /// Of windows and of scratch.
     pub others: Option<[f64; 2]>,
+    /// Of another commit's library.
+    pub earlier: Option<f64>,
 }
 
 impl TableRow {
@@ -32,6 +36,23 @@ impl TableRow {
             self.call, self.size
         )
     }
+
+    /// The other commit's time, and ours to it; nothing where it can't make the call.
+    fn beside(&self) -> String {
+        let [time, ratio] = self.earlier.map_or_else(Default::default, |earlier| {
+            [three_digits(earlier), format!("{:.2}", self.ours / earlier)]
+        });
+        beside(&time, &ratio)
+    }
+}
+
+/// The last two columns, where there is another commit's library.
+fn beside(time: &str, ratio: &str) -> String {
+    if HAS_OTHER {
+        format!("   {time:>9} {ratio:>13}")
+    } else {
+        String::new()
+    }
 }
 
 fn three_digits(time: f64) -> String {
@@ -45,10 +66,12 @@ fn three_digits(time: f64) -> String {
 
 /// A table under its title, a call's rows together.
 pub fn table(title: &str, rows: &[TableRow]) {
-    println!(
+    let heads = format!(
         "{title:32} {:>7} {:>12} {:>9} {:>9} {:>8}",
         "ours", "incremental", "windows", "scratch", "ratio"
     );
+    let beside = beside("earlier", "ours/earlier");
+    println!("{}", format!("{heads}  {beside}").trim_end());
     let mut call = "";
     for row in rows {
         if row.call != call {
@@ -56,7 +79,8 @@ pub fn table(title: &str, rows: &[TableRow]) {
         }
         call = row.call;
         let mark = if row.ratio() > GOAL { " <" } else { "" };
-        println!("{}{mark}", row.text());
+        let line = format!("{}{mark:2}{}", row.text(), row.beside());
+        println!("{}", line.trim_end());
     }
     println!();
 }
@@ -65,6 +89,9 @@ pub fn legend() {
     println!(
         "ratio: ours to the faster of incremental and scratch; < where it is above {GOAL:.2}\n"
     );
+    if HAS_OTHER {
+        println!("earlier: the other commit's library, where it has the call as we declare it\n");
+    }
 }
 
 /// Live points before the call, microseconds of ours and of scratch.

@@ -8,7 +8,8 @@
 //! begins each time, and the same other work comes before every turn.
 
 use crate::forms::{Call, Form, Incremental};
-use crate::ours::Ours;
+use crate::libraries::{Library, OtherCommit, HAS_OTHER};
+use crate::ours::{Earlier, Ours};
 use crate::scratch::Scratch;
 use crate::windows::Windows;
 use crate::work::board;
@@ -18,7 +19,7 @@ use std::time::Instant;
 /// The calls of a turn: enough that reading the clock counts little, few enough that other work on
 /// the machine seldom falls into a turn.
 const CALLS_A_TURN: usize = 4;
-const FORMS: usize = 4;
+const FORMS: usize = if HAS_OTHER { 5 } else { 4 };
 /// The rounds of all cases that a form makes before the next form does. Only the first of them comes behind
 /// another form: the median hardly notices it.
 const ROUNDS_A_BLOCK: usize = 10;
@@ -123,12 +124,24 @@ pub struct Case {
     incremental: Column<Incremental>,
     windows: Column<Windows>,
     scratch: Column<Scratch>,
+    /// None where the other commit's library lacks one of the calls.
+    earlier: Option<Column<Earlier>>,
+}
+
+/// A call's microseconds in every form.
+pub struct Times {
+    pub ours: f64,
+    pub incremental: f64,
+    pub windows: f64,
+    pub scratch: f64,
+    pub earlier: Option<f64>,
 }
 
 impl Case {
     /// The call on the board that the calls before it lead to, which must get this ruling's number
-    /// from every form; the two forms that stand on words must come to the same words.
+    /// from every form; ours and the form in Rust that stands on words must come to the same words.
     pub fn new(name: &'static str, jobs: usize, before: &[Call], call: Call, number: u32) -> Self {
+        let has_earlier = OtherCommit::CALLS.have_all(before, &call);
         let case = Case {
             name,
             jobs,
@@ -137,6 +150,7 @@ impl Case {
             incremental: Column::new(board(before)),
             windows: Column::new(board(before)),
             scratch: Column::new(board(before)),
+            earlier: has_earlier.then(|| Column::new(board(before))),
         };
         let (ours, words) = case.ours.try_once(&case.call);
         let (incremental, expected) = case.incremental.try_once(&case.call);
@@ -144,38 +158,47 @@ impl Case {
         let scratch = case.scratch.try_once(&case.call).0;
         let numbers = [ours, incremental, windows, scratch];
         assert_eq!(numbers, [number; 4], "{name} at {jobs}");
-        assert!(words.0 == expected.0, "boards differ: {name} at {jobs}");
+        assert!(words.words == expected.0, "boards differ: {name} at {jobs}");
+        if let Some(earlier) = &case.earlier {
+            let earlier = earlier.try_once(&case.call).0;
+            assert_eq!(earlier, number, "the other commit: {name} at {jobs}");
+        }
         case
     }
 
     /// The turn of one form.
     fn take_turn(&mut self, form: usize) {
-        let columns: [&mut dyn TakesTurns; FORMS] = [
-            &mut self.ours,
-            &mut self.incremental,
-            &mut self.windows,
-            &mut self.scratch,
-        ];
-        columns[form].take_turn(&self.call);
+        let column: Option<&mut dyn TakesTurns> = match form {
+            0 => Some(&mut self.ours),
+            1 => Some(&mut self.incremental),
+            2 => Some(&mut self.windows),
+            3 => Some(&mut self.scratch),
+            _ => self.earlier.as_mut().map(|column| column as _),
+        };
+        if let Some(column) = column {
+            column.take_turn(&self.call);
+        }
     }
 
-    /// Microseconds of a call behind others of its kind: ours, incremental, windows, scratch.
-    pub fn later_call(&self) -> [f64; FORMS] {
-        self.of_forms(|turn| turn.later)
+    /// Of a call behind others of its kind.
+    pub fn later_call(&self) -> Times {
+        self.times(|turn| turn.later)
     }
 
-    /// Microseconds of the first call of a turn.
-    pub fn first_call(&self) -> [f64; FORMS] {
-        self.of_forms(|turn| turn.first)
+    /// Of the first call of a turn.
+    pub fn first_call(&self) -> Times {
+        self.times(|turn| turn.first)
     }
 
-    fn of_forms(&self, number: impl Fn(Turn) -> f64 + Copy) -> [f64; FORMS] {
-        [
-            self.ours.microseconds(number),
-            self.incremental.microseconds(number),
-            self.windows.microseconds(number),
-            self.scratch.microseconds(number),
-        ]
+    fn times(&self, number: impl Fn(Turn) -> f64 + Copy) -> Times {
+        let earlier = self.earlier.as_ref();
+        Times {
+            ours: self.ours.microseconds(number),
+            incremental: self.incremental.microseconds(number),
+            windows: self.windows.microseconds(number),
+            scratch: self.scratch.microseconds(number),
+            earlier: earlier.map(|column| column.microseconds(number)),
+        }
     }
 }
 

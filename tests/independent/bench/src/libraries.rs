@@ -1,0 +1,102 @@
+//! The libraries whose calls are timed: this tree's, and another commit's beside it where ./bench was
+//! told of one.
+
+#[path = "../../c_calls.rs"]
+#[macro_use]
+mod c_calls;
+
+use crate::forms::Call;
+pub use c_calls::SfRow;
+
+type FactCheck = unsafe extern "C" fn(*const u8, usize, *const u8, usize) -> u32;
+type Fresh = unsafe extern "C" fn(*mut u32, usize, u32, u32) -> u32;
+#[rustfmt::skip]
+type Plan = unsafe extern "C" fn(
+    *mut u32, usize, *const u8, usize, *const u8, usize, *mut u32, usize,
+) -> u32;
+type ToNumber = unsafe extern "C" fn(*mut u32, usize, u32) -> u32;
+type Retire = unsafe extern "C" fn(*mut u32, usize) -> u32;
+type Report = unsafe extern "C" fn(*const u32, usize, *mut SfRow, usize) -> u32;
+
+/// The calls of a library; those that it lacks, or that its header declares otherwise, are None.
+pub struct Calls {
+    pub fact_check: Option<FactCheck>,
+    pub fresh: Option<Fresh>,
+    pub plan: Option<Plan>,
+    pub send: Option<ToNumber>,
+    pub clock: Option<ToNumber>,
+    pub retire: Option<Retire>,
+    pub report: Option<Report>,
+}
+
+impl Calls {
+    fn has(&self, call: &Call) -> bool {
+        match call {
+            Call::Plan { .. } => self.plan.is_some(),
+            Call::Send { .. } => self.send.is_some(),
+            Call::Clock { .. } => self.clock.is_some(),
+            Call::Retire => self.retire.is_some(),
+            Call::Report => self.report.is_some(),
+        }
+    }
+
+    /// Whether a board can be led to by the calls before this one, and the call made on it.
+    pub fn have_all(&self, before: &[Call], call: &Call) -> bool {
+        self.fresh.is_some() && before.iter().chain([call]).all(|call| self.has(call))
+    }
+}
+
+pub trait Library: Clone {
+    const CALLS: Calls;
+}
+
+/// This tree's library, which include/snipefeather.h declares.
+#[derive(Clone)]
+pub struct ThisTree;
+
+impl Library for ThisTree {
+    const CALLS: Calls = Calls {
+        fact_check: Some(c_calls::sf_fact_check),
+        fresh: Some(c_calls::sf_fresh),
+        plan: Some(c_calls::sf_plan),
+        send: Some(c_calls::sf_send),
+        clock: Some(c_calls::sf_clock),
+        retire: Some(c_calls::sf_retire),
+        report: Some(c_calls::sf_report),
+    };
+}
+
+/// Another commit's library, whose calls scripts/earlier renames.
+#[derive(Clone)]
+pub struct OtherCommit;
+
+mod renamed {
+    use super::SfRow;
+    c_calls!("earlier_");
+}
+
+/// A call of the other commit, where build.rs was told that it is declared alike.
+macro_rules! alike {
+    ($call:ident) => {
+        match option_env!(concat!("ALIKE_", stringify!($call))) {
+            Some(_) => Some(renamed::$call),
+            None => None,
+        }
+    };
+}
+
+impl Library for OtherCommit {
+    const CALLS: Calls = Calls {
+        fact_check: alike!(sf_fact_check),
+        fresh: alike!(sf_fresh),
+        plan: alike!(sf_plan),
+        send: alike!(sf_send),
+        clock: alike!(sf_clock),
+        retire: alike!(sf_retire),
+        report: alike!(sf_report),
+    };
+}
+
+/// Whether another commit's library is linked.
+pub const HAS_OTHER: bool =
+    OtherCommit::CALLS.fresh.is_some() || OtherCommit::CALLS.fact_check.is_some();
