@@ -19,7 +19,7 @@ ghost use Rattle.call_board.specs.InWords.{wordsAfter, freshRuling, freshWords}
 ghost use Rattle.call_report.specs.Rows.{reportedIn};
 
 // The value is written into the first word, where there is one.
-fn put_cause(cause: &mut [u32], v: u32)
+fn write_cause(cause: &mut [u32], v: u32)
     ensures { λ _. ⌜ now (cause .exit) ≡ set (now (cause .entry)) 0 v ⌝ }
 {
     if 0 < cause.len() {
@@ -44,7 +44,7 @@ pub extern "C" fn sf_plan(board: &mut [u32], plant: &[u8], offer: &[u8], cause: 
     ensures cause { λ _. ⌜ now (cause .exit) ≡ set (now (cause .entry)) 0 (valueOf (planned (lentBoard (now (board .entry))) (now (plant .entry)) (now (offer .entry)) .ruling)) ⌝ }
 {
     let ruling = plan(board, plant, offer);
-    put_cause(cause, value(ruling));
+    write_cause(cause, value(ruling));
     number(ruling)
 }
 

@@ -12,7 +12,7 @@ use lib.ListN.{getD, set, replicate}
 use borrow.Author.Tests.{not-false}
 use Rattle.spec_plain.specs.Limits.{side, cellCount}
 use Rattle.spec_plain.specs.Plain.{total}
-use Rattle.part_lines.specs.Held.{lineOf, linesFrom, noLine}
+use Rattle.part_lines.specs.ArrayLists.{lineOf, linesFrom, noLine}
 use Rattle.spec_stn.specs.Table.{bias}
 use Rattle.spec_rulebook.specs.Book.{emptyLines, fresh}
 use Rattle.part_gaps.specs.Cells.{cell}

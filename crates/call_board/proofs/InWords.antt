@@ -23,7 +23,7 @@ use Rattle.spec_plain.specs.declared.Settings.{Settings}
 use Rattle.spec_plain.specs.declared.Job.{Job}
 use Rattle.part_lines.specs.declared.Jobs.{Jobs}
 use Rattle.part_lines.specs.declared.Line.{Line}
-use Rattle.part_lines.specs.Held.{jobsOf, jobsFrom, noLine}
+use Rattle.part_lines.specs.ArrayLists.{jobsOf, jobsFrom, noLine}
 use Rattle.part_lines.specs.Asked.{Sized}
 use Rattle.spec_plain.specs.Plain.{total}
 use Rattle.spec_stn.specs.Table.{Closed}
@@ -31,20 +31,20 @@ use Rattle.part_gaps.specs.Cells.{tableOf}
 use Rattle.part_boardwords.specs.Board.{Board, boardWith}
 use Rattle.part_boardwords.specs.Layout.{clockAt, countAt, jobsAt, linesAt, cellsAt, boardSize}
 use Rattle.part_boardwords.specs.Words.{wordIn, heldJobs, linesRead, lineAt, allMarked, boardIn, lentBoard}
-use Rattle.part_boardwords.specs.Codec.{wordsOf, headWords, jobsWords, linesWords, put}
+use Rattle.part_boardwords.specs.Codec.{wordsOf, headWords, jobsWords, linesWords, overwritten}
 use Rattle.base_lists.specs.All.{All}
 use Rattle.base_lists.proofs.Build.{build-length}
 use Rattle.part_jobwords.specs.Counted.{FewPoints}
 use Rattle.part_jobwords.specs.Fronted.{fronted}
 use Rattle.part_boardwords.proofs.Boards.{same-lines, same-marks, same-jobs}
-use Rattle.part_boardwords.proofs.Put.{put-length, put-from, put-frame, length-jobs}
+use Rattle.part_boardwords.proofs.Overwritten.{overwritten-length, overwritten-from, overwritten-frame, length-jobs}
 use Rattle.part_boardwords.proofs.Heads.{head-set, head-kept}
 use Rattle.part_boardwords.proofs.Lent.{lentTable, wordsWith, cells-lent, with-word, written}
 use Rattle.part_sound.specs.Sound.{Sound, sound}
 use Rattle.part_sound.proofs.Soundness.{sound-to, sound-sized, sound-few}
 use Rattle.part_sound.proofs.InWords.{lent-whole}
 use Rattle.call_board.specs.Ruled.{Ruled}
-use Rattle.call_board.specs.Calls.{refused}
+use Rattle.call_board.specs.Calls.{refusedWith}
 use Rattle.call_board.specs.InWords.{wordsAfter}
 use Rattle.call_board.proofs.OnSound.{sized, lines-small, closed}
 
@@ -61,7 +61,7 @@ pub accepted-words : (w z : List ℕ) (r : Ruled) → r .ruling ≡ Accepted →
 unfolding wordsAfter
 accepted-words w z r e is = (sym e, is ∙ ap (λ (x : Ruling). ifAccepted x (wordsOf (r .board)) w) (sym e))
 
-pub unanswered : (w : List ℕ) (r : Ruled) (b : Board) (c : Cause) → refused b c ≡ r → (Refused c ≡ r .ruling) × (w ≡ wordsAfter w r)
+pub unanswered : (w : List ℕ) (r : Ruled) (b : Board) (c : Cause) → refusedWith b c ≡ r → (Refused c ≡ r .ruling) × (w ≡ wordsAfter w r)
 unfolding wordsAfter
 unanswered w r b c e = (ap (λ (x : Ruled). x .ruling) e, ap (wordsAfter w) e)
 
@@ -138,7 +138,7 @@ module _ (w : List ℕ) (e : sound (boardIn w) ≡ true) where
       kept : (k : ℕ) → linesAt ≤ k → k < cellsAt → wordIn x k ≡ wordIn w k
       kept k l h =
           ap (λ (v : List ℕ). wordIn v k) ex
-          ∙ (put-from headed jobsAt (jobsWords (jobs .jobs)) k (omega (arith, length-jobs (jobs .jobs)))
+          ∙ (overwritten-from headed jobsAt (jobsWords (jobs .jobs)) k (omega (arith, length-jobs (jobs .jobs)))
           ∙ (getD-set-other ticked countAt k (jobs .count) 0 (λ e. omega arith)
           ∙ (getD-set-other (wordsWith w t) clockAt k c 0 (λ e. omega arith) ∙ with-word w len t k h)))
 
@@ -148,18 +148,18 @@ module _ (w : List ℕ) (e : sound (boardIn w) ≡ true) where
       pub length-fronted : length (wordsWith w t) ≡ boardSize → length x ≡ boardSize
       length-fronted size =
           ap length ex
-          ∙ (put-length headed jobsAt (jobsWords (jobs .jobs))
+          ∙ (overwritten-length headed jobsAt (jobsWords (jobs .jobs))
           ∙ (length-set ticked countAt (jobs .count) ∙ (length-set (wordsWith w t) clockAt c ∙ size)))
 
       pub few-after : (k : ℕ) → getD (linesRead (wordIn x)) k noLine .count ≤ mostUses
       few-after = few-uses x lines-kept
 
       pub assembled :
-          length (wordsWith w t) ≡ boardSize → (ls : List Line) (z : List ℕ) → z ≡ put x linesAt (linesWords ls)
+          length (wordsWith w t) ≡ boardSize → (ls : List Line) (z : List ℕ) → z ≡ overwritten x linesAt (linesWords ls)
           → z ≡ wordsOf (boardWith (boardIn w) c jobs ls t)
       assembled size ls z ez =
           let d : Board = boardWith (boardIn w) c jobs ls t in
-          let head : headed ≡ put (wordsWith w t) 0 (headWords d) =
+          let head : headed ≡ overwritten (wordsWith w t) 0 (headWords d) =
           head-set (wordsWith w t) d (omega (arith, size)) (λ k h nc nn. with-word w len t k (omega arith) ∙ head-kept (wordIn w) c jobs ls t k h nc nn) in
-          put-frame d (wordsWith w t) _ x z refl (ex ∙ ap (λ (v : List ℕ). put v jobsAt (jobsWords (jobs .jobs))) head) ez
+          overwritten-frame d (wordsWith w t) _ x z refl (ex ∙ ap (λ (v : List ℕ). overwritten v jobsAt (jobsWords (jobs .jobs))) head) ez
           ∙ written w len t d refl size

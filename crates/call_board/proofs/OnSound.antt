@@ -17,7 +17,7 @@ use Rattle.spec_plain.specs.Limits.{resources, mostUses}
 use Rattle.spec_plain.specs.declared.Use.{Use}
 use Rattle.spec_plain.specs.Plain.{noUse, total}
 use Rattle.part_lines.specs.declared.Line.{Line}
-use Rattle.part_lines.specs.Held.{jobsOf, lineOf, linesOf, noLine}
+use Rattle.part_lines.specs.ArrayLists.{jobsOf, lineOf, linesOf, noLine}
 use Rattle.part_lines.specs.Asked.{Sized, Short, AllShort, Lined}
 use Rattle.part_lines.proofs.Lists.{map-at}
 use Rattle.spec_stn.specs.Table.{Closed}

@@ -21,7 +21,7 @@ use Rattle.spec_plain.specs.declared.Rule.{Rule}
 use Rattle.part_lines.specs.declared.rulelist.Rules.{Rules}
 use Rattle.spec_plain.specs.Plain
 use Rattle.spec_plain.specs.Plain.{total, notBefore, starts}
-use Rattle.part_lines.specs.Held.{jobsOf, jobsFrom, linesOf, linesFrom, rulesOf, rulesFrom, mostRules}
+use Rattle.part_lines.specs.ArrayLists.{jobsOf, jobsFrom, linesOf, linesFrom, rulesOf, rulesFrom, mostRules}
 use Rattle.part_gaps.specs.Cells.{Usable}
 use Rattle.part_boardwords.specs.Board.{Board, boardWith}
 use Rattle.part_boardwords.specs.Layout.{leadAt, clockAt, linesAt, boardSize}
@@ -31,7 +31,7 @@ use Rattle.base_lists.specs.All.{All}
 use Rattle.part_sound.specs.Sound.{SizedJob, Sound, sound}
 use Rattle.part_settling.specs.Settled.{AllUsable, addedAll, outcome}
 use Rattle.part_boardwords.specs.Words.{wordIn, settingsRead, heldJobs, boardIn, linesRead}
-use Rattle.part_boardwords.specs.Codec.{linesWords, put}
+use Rattle.part_boardwords.specs.Codec.{linesWords, overwritten}
 use Rattle.part_boardwords.proofs.Lent.{lentTable, wordsWith, cells-lent, unwritten}
 use Rattle.call_board.specs.Calls.{refusal, settled, clocked}
 use Rattle.call_board.specs.InWords.{wordsAfter}
@@ -168,7 +168,7 @@ module _
         → n ≡ suc (total (jobsOf (heldJobs (wordIn w)))) → outcome ok t ≡ addedAll (rulesOf rules) n (lentTable w)
         → (ok ≡ false → t ≡ lentTable w → (Refused (plain 20) ≡ clocked (boardIn w) c .ruling) × (wordsWith w t ≡ wordsAfter w (clocked (boardIn w) c)))
         × ((x z : List ℕ) → ok ≡ true → length (wordsWith w t) ≡ boardSize → x ≡ fronted (wordsWith w t) c (jobsFrom (jobsOf (heldJobs (wordIn w))))
-        → z ≡ put x linesAt (linesWords (linesFrom (linesOf (linesRead (wordIn x)))))
+        → z ≡ overwritten x linesAt (linesWords (linesFrom (linesOf (linesRead (wordIn x)))))
         → (Accepted ≡ clocked (boardIn w) c .ruling) × (z ≡ wordsAfter w (clocked (boardIn w) c)))
     clocked-words rules n ok t er en eo = (
       (λ no same. let r = unanswered w (clocked b c) b (plain 20) (none-left b c e later by-horizon (rulesOf rules) n ok t are en tried no) in
@@ -177,7 +177,7 @@ module _
           let new = jobsFrom (jobsOf (heldJobs (wordIn w))) in
           answered w z (clocked b c) _ (moved b c e later by-horizon (rulesOf rules) n ok t are en tried new (linesFrom (linesOf (b .lines))) yes refl refl)
           (assembled w e len t c new x ex size (linesFrom (linesOf (b .lines))) z
-          (ez ∙ ap (λ (ls : List Line). put x linesAt (linesWords (linesFrom (linesOf ls)))) (lines-kept w e len t c new x ex)))),
+          (ez ∙ ap (λ (ls : List Line). overwritten x linesAt (linesWords (linesFrom (linesOf ls)))) (lines-kept w e len t c new x ex)))),
     )
       where
         b : Board

@@ -22,14 +22,14 @@ use Rattle.spec_plain.specs.declared.Rule.{Rule}
 use Rattle.spec_plain.specs.declared.Use.{Use}
 use Rattle.spec_plain.specs.Plain.{noUse, goes, overBy, endOf, endsBy, allEndBy}
 use Rattle.part_lines.specs.declared.Line.{Line}
-use Rattle.part_lines.specs.Held.{lineOf, linesOf, noLine}
+use Rattle.part_lines.specs.ArrayLists.{lineOf, linesOf, noLine}
 use Rattle.part_lines.specs.Asked.{AllShort, Lined}
 use Rattle.part_lines.proofs.Lists.{held-next}
 use Rattle.part_boardwords.specs.Layout.{lineStart}
 use Rattle.part_boardwords.specs.Words.{Words, useAt, usesRead, lineRead, lineAt, linesRead}
 use Rattle.part_boardwords.proofs.Boards.{line-of, line-count, line-held}
 use Rattle.base_lists.proofs.Build.{build-length, build-at}
-use Rattle.spec_stn.specs.Table.{bias, implied}
+use Rattle.spec_stn.specs.Table.{bias, entailsAll}
 use Rattle.spec_stn.proofs.Fits.{implied-append}
 use Rattle.part_gaps.specs.Cells.{cell, tableOf}
 use Rattle.part_gaps.proofs.Overlaid.{origin-row}
@@ -55,19 +55,19 @@ module _
 
 module _ (l : List ℕ) (s : Settings) (c f m : ℕ) where
   abbrev pub usesEnd : List Use → Bool
-  usesEnd us = implied (tableOf l) (endsBy s c f m us)
+  usesEnd us = entailsAll (tableOf l) (endsBy s c f m us)
 
   abbrev pub linesEnd : List Line → Bool
-  linesEnd ls = implied (tableOf l) (allEndBy s c f m (linesOf ls))
+  linesEnd ls = entailsAll (tableOf l) (allEndBy s c f m (linesOf ls))
 
   pub ends-stays : (u : Use) → goes f m (u .point) ≡ false → true ≡ usesEnd (u ∷ [])
-  unfolding endsBy implied
+  unfolding endsBy entailsAll
   ends-stays u e = rw e
 
   pub ends-goes :
       (u : Use) → goes f m (u .point) ≡ true
       → leb (getD l (u .point) 0 + endOf s u) (bias + c) ≡ usesEnd (u ∷ [])
-  unfolding endsBy overBy implied
+  unfolding endsBy overBy entailsAll
   ends-goes u e = rw (e, origin-row l (u .point), and-true)
 
   ends-split :
@@ -76,7 +76,7 @@ module _ (l : List ℕ) (s : Settings) (c f m : ℕ) where
   ends-split u us =
       let here : List Rule = cond (goes f m (u .point)) (overBy (u .point) (endOf s u) c ∷ []) [] in
       implied-append (tableOf l) here (endsBy s c f m us)
-      ∙ ap (λ (rs : List Rule). implied (tableOf l) rs && implied (tableOf l) (endsBy s c f m us)) (sym (append-nil here))
+      ∙ ap (λ (rs : List Rule). entailsAll (tableOf l) rs && entailsAll (tableOf l) (endsBy s c f m us)) (sym (append-nil here))
 
   lines-split :
       (q : Line) (ls : List Line) → linesEnd (q ∷ ls) ≡ (usesEnd (lineOf q) && linesEnd ls)
@@ -91,7 +91,7 @@ module _ (l : List ℕ) (s : Settings) (c f m : ℕ) where
   uses-next = flag-next (λ u. usesEnd (u ∷ [])) usesEnd ends-split
 
   pub uses-end : (us : List Use) (k : ℕ) (ok : Bool) → (ok && usesEnd (drop k us)) ≡ usesEnd us → drop k us ≡ [] → ok ≡ usesEnd us
-  unfolding endsBy implied
+  unfolding endsBy entailsAll
   uses-end us k ok is e = flag-end (λ u. usesEnd (u ∷ [])) usesEnd ends-split us k ok is e refl
 
   lines-next :
@@ -102,18 +102,18 @@ module _ (l : List ℕ) (s : Settings) (c f m : ℕ) where
       flag-next (λ q. usesEnd (lineOf q)) linesEnd lines-split ls k ok is (getD ls k noLine) test left t
 
   lines-end : (ls : List Line) (k : ℕ) (ok : Bool) → (ok && linesEnd (drop k ls)) ≡ linesEnd ls → length ls ≤ k → ok ≡ linesEnd ls
-  unfolding allEndBy implied
+  unfolding allEndBy entailsAll
   lines-end ls k ok is h = flag-end (λ q. usesEnd (lineOf q)) linesEnd lines-split ls k ok is (drop-of-length-le ls h) refl
 
 -- ---- the last point, with the tray gap d behind it
 
 module _ (l : List ℕ) (c x d : ℕ) (rs : List Rule) where
-  pub last-late : bias + c < getD l x 0 + d → false ≡ implied (tableOf l) (overBy x d c ∷ rs)
-  unfolding implied overBy
+  pub last-late : bias + c < getD l x 0 + d → false ≡ entailsAll (tableOf l) (overBy x d c ∷ rs)
+  unfolding entailsAll overBy
   last-late h = rw (lt-leb (cell l 0 x + d) (bias + c) (omega (arith, origin-row l x)))
 
-  pub last-over : (test : Bool) → test ≡ implied (tableOf l) rs → getD l x 0 + d ≤ bias + c → test ≡ implied (tableOf l) (overBy x d c ∷ rs)
-  unfolding implied overBy
+  pub last-over : (test : Bool) → test ≡ entailsAll (tableOf l) rs → getD l x 0 + d ≤ bias + c → test ≡ entailsAll (tableOf l) (overBy x d c ∷ rs)
+  unfolding entailsAll overBy
   last-over test e h = e ∙ rw (le-leb (cell l 0 x + d) (bias + c) (omega (arith, origin-row l x)))
 
 -- ---- uses read one by one

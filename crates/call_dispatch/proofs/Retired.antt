@@ -23,10 +23,10 @@ use Rattle.spec_plain.specs.Plain
 use Rattle.spec_plain.specs.Plain.{total, trayGap, overBy, allEndBy, staying}
 use Rattle.part_lines.specs.declared.Jobs.{Jobs}
 use Rattle.part_lines.specs.declared.Line.{Line}
-use Rattle.part_lines.specs.Held.{jobsOf, jobsFrom, linesOf, linesFrom, noJob}
+use Rattle.part_lines.specs.ArrayLists.{jobsOf, jobsFrom, linesOf, linesFrom, noJob}
 use Rattle.part_lines.proofs.Lists.{held-next}
 use Rattle.base_lists.specs.All.{All}
-use Rattle.spec_stn.specs.Table.{implied}
+use Rattle.spec_stn.specs.Table.{entailsAll}
 use Rattle.part_gaps.specs.Cells.{tableOf, dropped}
 use Rattle.call_dispatch.specs.Ending.{InReach}
 use Rattle.part_boardwords.specs.Board.{Board, boardWith}
@@ -35,10 +35,10 @@ use Rattle.part_sound.specs.Sound.{SizedJob, Sound, sound}
 use Rattle.call_board.specs.Boards.{stateOf}
 use Rattle.part_lines.specs.Asked.{Lined}
 use Rattle.part_boardwords.specs.Words.{wordIn, settingsRead, heldJobs, jobAt, cellAt, cellsRead, boardIn, linesRead}
-use Rattle.part_boardwords.specs.Codec.{linesWords, put}
+use Rattle.part_boardwords.specs.Codec.{linesWords, overwritten}
 use Rattle.base_lists.proofs.Build.{build-length, build-at}
 use Rattle.part_boardwords.proofs.Lent.{lentTable, wordsWith, cells-lent}
-use Rattle.call_board.specs.Calls.{refusal, left, retired}
+use Rattle.call_board.specs.Calls.{refusal, departed, retired}
 use Rattle.call_board.specs.InWords.{wordsAfter}
 use Rattle.part_jobwords.specs.Fronted.{fronted}
 use Rattle.call_board.proofs.OnSound.{closed, lined}
@@ -59,21 +59,21 @@ module _ (b : Board) where
   oldest-first some le = held-next (b .jobs .count) (b .jobs .jobs) 0 noJob (omega arith) le
 
   -- the answer by the list of jobs
-  by-jobs : sound b ≡ true → (js : List Job) → jobsOf (b .jobs) ≡ js → left b (Plain.leavingFrom (stateOf b) js) ≡ retired b
+  by-jobs : sound b ≡ true → (js : List Job) → jobsOf (b .jobs) ≡ js → departed b (Plain.leavingFrom (stateOf b) js) ≡ retired b
   unfolding retired Plain.leaving
   by-jobs e js q =
-      let whole : left b (Plain.leavingFrom (stateOf b) (jobsOf (b .jobs))) ≡ retired b = rw e in
-      ap (λ (l : List Job). left b (Plain.leavingFrom (stateOf b) l)) (sym q) ∙ whole
+      let whole : departed b (Plain.leavingFrom (stateOf b) (jobsOf (b .jobs))) ≡ retired b = rw e in
+      ap (λ (l : List Job). departed b (Plain.leavingFrom (stateOf b) l)) (sym q) ∙ whole
 
   pub none-there : sound b ≡ true → b .jobs .count ≡ 0 → refusal b 21 ≡ retired b
-  unfolding left Plain.leavingFrom
+  unfolding departed Plain.leavingFrom
   none-there e z = by-jobs e [] (ap (λ (n : ℕ). take n (b .jobs .jobs)) z)
 
   module _ (j : Job) (js : List Job) (q : jobsOf (b .jobs) ≡ j ∷ js) where
     pub unsent : sound b ≡ true → j .sent ≡ false → refusal b 21 ≡ retired b
-    unfolding left Plain.leavingFrom
+    unfolding departed Plain.leavingFrom
     unsent e u =
-        let stops : refusal b 21 ≡ left b (Plain.leavingFrom (stateOf b) (j ∷ js)) = rw u in
+        let stops : refusal b 21 ≡ departed b (Plain.leavingFrom (stateOf b) (j ∷ js)) = rw u in
         stops ∙ by-jobs e (j ∷ js) q
 
     -- ---- on a sound board
@@ -99,17 +99,17 @@ module _ (b : Board) where
 
     module _
         (e : sound b ≡ true) (was-sent : j .sent ≡ true) (ok : Bool)
-        (is : ok ≡ implied (tableOf (b .gaps)) (ends (b .settings) (1 + j .points - 1) (b .clock) (j .points) (b .lines)))
+        (is : ok ≡ entailsAll (tableOf (b .gaps)) (ends (b .settings) (1 + j .points - 1) (b .clock) (j .points) (b .lines)))
       where
-        test : ok ≡ implied (tableOf (b .gaps)) (ends (b .settings) (j .points) (b .clock) (j .points) (b .lines))
+        test : ok ≡ entailsAll (tableOf (b .gaps)) (ends (b .settings) (j .points) (b .clock) (j .points) (b .lines))
         test =
             let last : 1 + j .points - 1 ≡ j .points = omega arith in
-            is ∙ ap (λ (x : ℕ). implied (tableOf (b .gaps)) (ends (b .settings) x (b .clock) (j .points) (b .lines))) last
+            is ∙ ap (λ (x : ℕ). entailsAll (tableOf (b .gaps)) (ends (b .settings) x (b .clock) (j .points) (b .lines))) last
 
         pub late : ok ≡ false → refusal b 21 ≡ retired b
-        unfolding left Plain.leavingFrom
+        unfolding departed Plain.leavingFrom
         late f =
-            let stops : refusal b 21 ≡ left b (Plain.leavingFrom (stateOf b) (j ∷ js)) = rw (was-sent, ← test, f) in
+            let stops : refusal b 21 ≡ departed b (Plain.leavingFrom (stateOf b) (j ∷ js)) = rw (was-sent, ← test, f) in
             stops ∙ by-jobs e (j ∷ js) q
 
         pub retired-is :
@@ -121,7 +121,7 @@ module _ (b : Board) where
               board = boardWith b (b .clock) jobs lines cells;
             }
             ≡ retired b
-        unfolding left Plain.leavingFrom Plain.without Plain.liveCount
+        unfolding departed Plain.leavingFrom Plain.without Plain.liveCount
         retired-is t jobs lines cells n ej el en ec =
             let kept : cells ≡ dropped (b .gaps) 1 (j .points) (suc (total (jobsOf (b .jobs)))) =
             ec ∙ ap (dropped (b .gaps) 1 (j .points)) en in
@@ -130,7 +130,7 @@ module _ (b : Board) where
               ruling = Accepted;
               board = boardWith b (b .clock) jobs lines cells;
             }
-            ≡ left b (Plain.leavingFrom (stateOf b) (j ∷ js)) = rw (was-sent, ← test, t, ej, el, kept) in
+            ≡ departed b (Plain.leavingFrom (stateOf b) (j ∷ js)) = rw (was-sent, ← test, t, ej, el, kept) in
             goes ∙ by-jobs e (j ∷ js) q
 
 -- ---- in words
@@ -156,12 +156,12 @@ module _ (w : List ℕ) (len : length w ≡ boardSize) (e : sound (boardIn w) �
   -- the words after the call, where the oldest job is not over, and where it is
   pub retired-words :
       (ok : Bool) → j .sent ≡ true
-      → ok ≡ implied (tableOf (cellsRead (wordIn w))) (ends (settingsRead (wordIn w)) (1 + j .points - 1) (wordIn w clockAt) (j .points) (linesRead (wordIn w)))
+      → ok ≡ entailsAll (tableOf (cellsRead (wordIn w))) (ends (settingsRead (wordIn w)) (1 + j .points - 1) (wordIn w clockAt) (j .points) (linesRead (wordIn w)))
       → (ok ≡ false → (Refused (plain 21) ≡ retired (boardIn w) .ruling) × (w ≡ wordsAfter w (retired (boardIn w))))
       × ((n : ℕ) (t x z : List ℕ) → ok ≡ true → n ≡ suc (total (jobsOf (heldJobs (wordIn w))))
       → t ≡ dropped (lentTable w) 1 (j .points) n → length (wordsWith w t) ≡ boardSize
       → x ≡ fronted (wordsWith w t) (wordIn w clockAt) (jobsFrom (drop 1 (jobsOf (heldJobs (wordIn w)))))
-      → z ≡ put x linesAt (linesWords (linesFrom (map (staying 1 (j .points)) (linesOf (linesRead (wordIn x))))))
+      → z ≡ overwritten x linesAt (linesWords (linesFrom (map (staying 1 (j .points)) (linesOf (linesRead (wordIn x))))))
       → (Accepted ≡ retired (boardIn w) .ruling) × (z ≡ wordsAfter w (retired (boardIn w))))
   retired-words ok was read = (
     (λ no. unanswered w (retired b) b (plain 21) (late b _ _ first e was ok read no)),
@@ -170,7 +170,7 @@ module _ (w : List ℕ) (len : length w ≡ boardSize) (e : sound (boardIn w) �
         let ls = linesFrom (map (staying 1 m) (linesOf (b .lines))) in
         answered w z (retired b) _ (retired-is b _ _ first e was ok read yes new ls t n refl refl en (et ∙ ap (λ (l : List ℕ). dropped l 1 m n) (cells-lent w len)))
         (assembled w e len t (wordIn w clockAt) new x ex size ls z
-        (ez ∙ ap (λ (l : List Line). put x linesAt (linesWords (linesFrom (map (staying 1 m) (linesOf l))))) (lines-kept w e len t (wordIn w clockAt) new x ex)))),
+        (ez ∙ ap (λ (l : List Line). overwritten x linesAt (linesWords (linesFrom (map (staying 1 m) (linesOf l))))) (lines-kept w e len t (wordIn w clockAt) new x ex)))),
   )
     where
       b : Board

@@ -4,7 +4,7 @@ use base_rulings::Ruling;
 use part_boardwords::layout;
 use part_boardwords::settings_in;
 use part_jobwords::points_in;
-use part_jobwords::put_clock;
+use part_jobwords::write_clock;
 use part_jobwords::start_rules;
 use part_linewords::tidy_lines;
 use part_settling::try_rules;
@@ -32,7 +32,7 @@ fn move_clock(w: &mut [u32], settings: Settings, c: u32) -> Ruling
     if !try_rules(&mut w[layout::CELLS_AT..], n, rules) {
         return Ruling::Refused(Cause::Plain(20));
     }
-    put_clock(w, c);
+    write_clock(w, c);
     tidy_lines(w);
     Ruling::Accepted
 }

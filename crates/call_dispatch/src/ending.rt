@@ -15,9 +15,9 @@ ghost use Prim.Native.Nat.{_+_, _-_, _≤_};
 ghost use lib.ListN.{length};
 ghost use Rattle.spec_plain.specs.Limits.{mostUses};
 ghost use Rattle.spec_plain.specs.Plain.{trayGap, overBy, endsBy, allEndBy};
-ghost use Rattle.part_lines.specs.Held.{lineOf, linesOf};
+ghost use Rattle.part_lines.specs.ArrayLists.{lineOf, linesOf};
 ghost use Rattle.part_lines.specs.Asked.{Short, AllShort, Lined};
-ghost use Rattle.spec_stn.specs.Table.{implied};
+ghost use Rattle.spec_stn.specs.Table.{entailsAll};
 ghost use Rattle.part_gaps.specs.Cells.{tableOf};
 ghost use Rattle.part_boardwords.specs.Layout.{cellsAt, lineEnd};
 ghost use Rattle.part_boardwords.specs.Words.{wordIn, lineRead, linesRead};
@@ -26,7 +26,7 @@ ghost use Rattle.call_dispatch.specs.Ending.{InReach};
 // A use of a point that leaves ends by the clock; nothing is asked of one that stays.
 fn use_ends(t: &[u32], settings: Settings, clock: u32, f: u32, m: u32, u: Use) -> bool
     requires { ⌜ InReach (now t) clock f m × Short u ⌝ }
-    ensures { λ r. ⌜ r ≡ implied (tableOf (now (t .entry))) (endsBy settings clock f m (u ∷ [])) ⌝ }
+    ensures { λ r. ⌜ r ≡ entailsAll (tableOf (now (t .entry))) (endsBy settings clock f m (u ∷ [])) ⌝ }
 {
     if !goes(f, m, u.point) {
         return true;
@@ -47,7 +47,7 @@ fn line_ends(
 ) -> bool
     requires { ⌜ InReach (now t) clock f m × (lineEnd at ≤ length (now w)) × (wordIn (now w) at ≤ mostUses)
         × AllShort (lineOf (lineRead (wordIn (now w)) at)) ⌝ }
-    ensures { λ r. ⌜ r ≡ implied (tableOf (now (t .entry))) (endsBy settings clock f m (lineOf (lineRead (wordIn (now (w .entry))) at))) ⌝ }
+    ensures { λ r. ⌜ r ≡ entailsAll (tableOf (now (t .entry))) (endsBy settings clock f m (lineOf (lineRead (wordIn (now (w .entry))) at))) ⌝ }
 {
     let count = w[at] as usize;
     let mut ok = true;
@@ -61,7 +61,7 @@ fn line_ends(
 // Each use of all lines of a board, read where they lie in its words.
 fn lines_end(t: &[u32], settings: Settings, clock: u32, f: u32, m: u32, w: &[u32]) -> bool
     requires { ⌜ InReach (now t) clock f m × (cellsAt ≤ length (now w)) × Lined (linesRead (wordIn (now w))) ⌝ }
-    ensures { λ r. ⌜ r ≡ implied (tableOf (now (t .entry))) (allEndBy settings clock f m (linesOf (linesRead (wordIn (now (w .entry)))))) ⌝ }
+    ensures { λ r. ⌜ r ≡ entailsAll (tableOf (now (t .entry))) (allEndBy settings clock f m (linesOf (linesRead (wordIn (now (w .entry)))))) ⌝ }
 {
     let mut ok = true;
     for k in 0..limits::RESOURCES {
@@ -73,7 +73,7 @@ fn lines_end(t: &[u32], settings: Settings, clock: u32, f: u32, m: u32, w: &[u32
 // The last point of those that leave, with the tray gap, and each use of them end by the clock.
 pub fn are_over(t: &[u32], settings: Settings, clock: u32, f: u32, m: u32, w: &[u32]) -> bool
     requires { ⌜ InReach (now t) clock f m × (1 ≤ m) × (cellsAt ≤ length (now w)) × Lined (linesRead (wordIn (now w))) ⌝ }
-    ensures { λ r. ⌜ r ≡ implied (tableOf (now (t .entry))) (overBy (f + m - 1) (trayGap settings) clock
+    ensures { λ r. ⌜ r ≡ entailsAll (tableOf (now (t .entry))) (overBy (f + m - 1) (trayGap settings) clock
         ∷ allEndBy settings clock f m (linesOf (linesRead (wordIn (now (w .entry)))))) ⌝ }
 {
     let last = (f + m - 1) as usize;

@@ -16,9 +16,9 @@ ghost use mathlib.Core.List.{_∷_};
 ghost use Prim.Native.Nat.{_+_, _-_, _≤_};
 ghost use lib.ListN.{length};
 ghost use Rattle.spec_plain.specs.Plain.{trayGap, overBy, allEndBy};
-ghost use Rattle.part_lines.specs.Held.{linesOf};
+ghost use Rattle.part_lines.specs.ArrayLists.{linesOf};
 ghost use Rattle.part_lines.specs.Asked.{Lined};
-ghost use Rattle.spec_stn.specs.Table.{implied};
+ghost use Rattle.spec_stn.specs.Table.{entailsAll};
 ghost use Rattle.part_gaps.specs.Cells.{tableOf};
 ghost use Rattle.call_dispatch.specs.Ending.{InReach};
 ghost use Rattle.part_boardwords.specs.Layout.{clockAt, countAt, boardSize};
@@ -31,7 +31,7 @@ ghost use Rattle.call_board.specs.InWords.{wordsAfter};
 fn is_over(w: &[u32], m: u32) -> bool
     requires { ⌜ length (now w) ≡ boardSize ⌝ }
     requires { ⌜ InReach (cellsRead (wordIn (now w))) (wordIn (now w) clockAt) 1 m × (1 ≤ m) × Lined (linesRead (wordIn (now w))) ⌝ }
-    ensures { λ r. ⌜ r ≡ implied (tableOf (cellsRead (wordIn (now (w .entry))))) (overBy (1 + m - 1) (trayGap (settingsRead (wordIn (now (w .entry))))) (wordIn (now (w .entry)) clockAt) ∷ allEndBy (settingsRead (wordIn (now (w .entry)))) (wordIn (now (w .entry)) clockAt) 1 m (linesOf (linesRead (wordIn (now (w .entry)))))) ⌝ }
+    ensures { λ r. ⌜ r ≡ entailsAll (tableOf (cellsRead (wordIn (now (w .entry))))) (overBy (1 + m - 1) (trayGap (settingsRead (wordIn (now (w .entry))))) (wordIn (now (w .entry)) clockAt) ∷ allEndBy (settingsRead (wordIn (now (w .entry)))) (wordIn (now (w .entry)) clockAt) 1 m (linesOf (linesRead (wordIn (now (w .entry)))))) ⌝ }
 {
     are_over(
         &w[layout::CELLS_AT..],

@@ -15,7 +15,7 @@ ghost use Prim.Native.Nat.{_≤_};
 ghost use lib.ListN.{length};
 ghost use Rattle.spec_plain.specs.Limits.{mostJobs};
 ghost use Rattle.spec_plain.specs.Plain.{unsentAt};
-ghost use Rattle.part_lines.specs.Held.{jobsOf};
+ghost use Rattle.part_lines.specs.ArrayLists.{jobsOf};
 ghost use Rattle.part_boardwords.specs.Layout.{countAt, boardSize};
 ghost use Rattle.part_boardwords.specs.Words.{wordIn, heldJobs, boardIn, lentBoard};
 ghost use Rattle.part_boardwords.specs.Codec.{wordsOf};

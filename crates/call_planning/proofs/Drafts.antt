@@ -12,12 +12,12 @@ use lib.Dec.{eqb, ltb, leb}
 use lib.ListN.{length, length-append}
 use borrow.Author.Tests.{ltb-false, leb-false}
 use Rattle.base_rulings.specs.Answer.{plain}
-use Rattle.base_rulings.proofs.Laws.{neither}
-use Rattle.part_lines.specs.Held.{mostRules}
+use Rattle.base_rulings.proofs.RulingLaws.{neither}
+use Rattle.part_lines.specs.ArrayLists.{mostRules}
 use Rattle.spec_plain.specs.Limits.{mostJobs, mostPoints, side}
 use Rattle.spec_plain.specs.declared.Settings.{Settings}
 use Rattle.spec_plain.specs.declared.Job.{Job}
-use Rattle.spec_plain.specs.declared.Put.{Put}
+use Rattle.spec_plain.specs.declared.Allocation.{Allocation}
 use Rattle.spec_plain.specs.declared.Rule.{Rule}
 use Rattle.spec_plain.specs.declared.Step.{Step}
 use Rattle.spec_plain.specs.declared.Use.{Use}
@@ -33,7 +33,7 @@ use Rattle.spec_plain.specs.Plain.{
   usedFrom,
   durations,
   full,
-  pointsOf,
+  newPoints,
   jobFrom,
   placed,
   joining,
@@ -41,7 +41,7 @@ use Rattle.spec_plain.specs.Plain.{
   withJobs,
   withLines,
   trayGap,
-  batchOf,
+  jobBatch,
   orElse,
   afterNewest,
   batchRules,
@@ -49,7 +49,7 @@ use Rattle.spec_plain.specs.Plain.{
 use Rattle.base_lists.specs.All.{All}
 use Rattle.base_lists.proofs.All.{all-append, all-map}
 use Rattle.part_gaps.specs.Cells.{Usable}
-use Rattle.part_offered.specs.Sized.{SizedStep, SizedPut, SizedOffer}
+use Rattle.part_offered.specs.Sized.{SizedStep, SizedAllocation, SizedOffer}
 use Rattle.part_sound.specs.Sound.{SizedJob}
 use Rattle.call_board.proofs.OnSound.{Fits}
 use Rattle.part_lines.specs.Placing.{allWith, AllFit}
@@ -68,9 +68,9 @@ order-usable s n a b p q =
       few-slack = omega (arith, q .offset);
     }
 
-put-fits : (n x k : ℕ) (p : Put) → x + k ≤ n → SizedPut k p → Fits n (usedFrom x p)
+overwritten-fits : (n x k : ℕ) (p : Allocation) → x + k ≤ n → SizedAllocation k p → Fits n (usedFrom x p)
 unfolding usedFrom
-put-fits n x k p le s = record { point = omega (arith, s .step); offset = s .readable .offset; length = s .readable .length }
+overwritten-fits n x k p le s = record { point = omega (arith, s .step); offset = s .readable .offset; length = s .readable .length }
 
 -- ---- rules (b), (c) and (e)
 
@@ -106,7 +106,7 @@ unfolding afterNewest total
 newest-one n d b last x [] near h le jobs = (tt, omega arith)
 newest-one n d b last x (j ∷ js) near h le jobs =
     orElse-one n (afterNewest d b last (x + j .points) js) _ (newest-one n d b last (x + j .points) js near h (omega arith) (jobs .1))
-    (go (eqb (batchOf j) b))
+    (go (eqb (jobBatch j) b))
   where
     go : (q : Bool) → One n (cond q (record { early = x + j .points - 1; more = d; late = last; slack = 0 } ∷ []) [])
     go true = (
@@ -127,7 +127,7 @@ batch-one n d b last js near h le jobs = go (eqb b 0)
 -- ---- drafts
 
 pub record Joins (s : State) (o : Offer) (next : State) (m : ℕ) (rs : List Rule) : Type 0 where
-  pub points : m ≡ pointsOf o
+  pub points : m ≡ newPoints o
   pub room : liveCount s + m ≤ side
   pub jobs : length (s .jobs) < mostJobs
   -- the offer's job stands behind the others; beside jobs and lines nothing changes
@@ -145,7 +145,7 @@ module _
     (clock : s .clock + s .settings .lead ≤ 101000000) (offer : SizedOffer o)
   where
     abbrev n : ℕ
-    n = liveCount s + pointsOf o
+    n = liveCount s + newPoints o
 
     wider : (u : Use) → Fits (liveCount s) u → Fits n u
     wider u f = record { point = omega (arith, f .point); offset = f .offset; length = f .length }
@@ -154,18 +154,18 @@ module _
     unfolding notBefore liveCount
     first = record { early-live = omega arith; late-live = omega arith; few-more = omega (arith, clock); few-slack = omega arith }
 
-    joined-usable : (rs : List Rule) → All (Usable n) rs → length rs ≤ 64 → full s (pointsOf o) ≡ false → (ls : List (List Use)) → DraftJoins s o (joining s o (Placed.done ls rs))
+    joined-usable : (rs : List Rule) → All (Usable n) rs → length rs ≤ 64 → full s (newPoints o) ≡ false → (ls : List (List Use)) → DraftJoins s o (joining s o (Placed.done ls rs))
     unfolding DraftJoins joining full liveCount
     joined-usable rs a few room ls =
-        let roomy = neither (leb mostJobs (length (s .jobs))) (ltb mostPoints (total (s .jobs) + pointsOf o)) room in
+        let roomy = neither (leb mostJobs (length (s .jobs))) (ltb mostPoints (total (s .jobs) + newPoints o)) room in
         let last = liveCount s + length (o .steps) in
         let gap = trayGap (s .settings) in
-        let end = batch-one n gap (batchOf (jobFrom o)) last (s .jobs) (omega arith) (omega arith) (omega arith) jobs in
-        let ending = batchRules gap (batchOf (jobFrom o)) last (s .jobs) in
+        let end = batch-one n gap (jobBatch (jobFrom o)) last (s .jobs) (omega arith) (omega arith) (omega arith) jobs in
+        let ending = batchRules gap (jobBatch (jobFrom o)) last (s .jobs) in
         let lasting = durations (liveCount s) (o .steps) in
         record {
           points = refl;
-          room = omega (arith, ltb-false mostPoints (total (s .jobs) + pointsOf o) (roomy .1));
+          room = omega (arith, ltb-false mostPoints (total (s .jobs) + newPoints o) (roomy .1));
           jobs = few-jobs (roomy .0);
           state = refl;
           usable = (
@@ -179,21 +179,21 @@ module _
         few-jobs : leb mostJobs (length (s .jobs)) ≡ false → length (s .jobs) < mostJobs
         few-jobs e = leb-false mostJobs (length (s .jobs)) e
 
-    joining-joins : (q : Placed) → Placing (s .settings) (Fits n) (Usable n) (order-usable (s .settings) n) 64 q → full s (pointsOf o) ≡ false → DraftJoins s o (joining s o q)
+    joining-joins : (q : Placed) → Placing (s .settings) (Fits n) (Usable n) (order-usable (s .settings) n) 64 q → full s (newPoints o) ≡ false → DraftJoins s o (joining s o q)
     unfolding Placing DraftJoins joining
     joining-joins (Placed.stop c) a room = tt
     joining-joins (Placed.done ls rs) a room = joined-usable rs (a .1) (a .2) room ls
 
     pub drafted-joins : DraftJoins s o (drafted s o)
     unfolding DraftJoins drafted
-    drafted-joins = go (full s (pointsOf o)) refl
+    drafted-joins = go (full s (newPoints o)) refl
       where
-        go : (b : Bool) → full s (pointsOf o) ≡ b → DraftJoins s o (cond b (Draft.stop (plain 14)) (joining s o (placed (s .settings) (liveCount s) 0 (o .puts) (s .lines) [])))
+        go : (b : Bool) → full s (newPoints o) ≡ b → DraftJoins s o (cond b (Draft.stop (plain 14)) (joining s o (placed (s .settings) (liveCount s) 0 (o .allocations) (s .lines) [])))
         go true e = tt
         go false e =
-            joining-joins (placed (s .settings) (liveCount s) 0 (o .puts) (s .lines) [])
-            (placed-all (s .settings) (Fits n) (Usable n) (order-usable (s .settings) n) (liveCount s) 0 64 (o .puts) (s .lines) []
-            (all-map (SizedPut (length (o .steps))) (λ p. Fits n (usedFrom (liveCount s) p)) (λ p. put-fits n (liveCount s) (length (o .steps)) p (omega arith)) (o .puts) (offer .puts))
+            joining-joins (placed (s .settings) (liveCount s) 0 (o .allocations) (s .lines) [])
+            (placed-all (s .settings) (Fits n) (Usable n) (order-usable (s .settings) n) (liveCount s) 0 64 (o .allocations) (s .lines) []
+            (all-map (SizedAllocation (length (o .steps))) (λ p. Fits n (usedFrom (liveCount s) p)) (λ p. overwritten-fits n (liveCount s) (length (o .steps)) p (omega arith)) (o .allocations) (offer .allocations))
             (all-map (All (Fits (liveCount s))) (All (Fits n)) (λ l. all-map (Fits (liveCount s)) (Fits n) (λ u. wider u) l) (s .lines) lines)
             tt (omega (arith, offer .count))) e
 
@@ -205,20 +205,20 @@ linesToBe (Draft.go next m rs) = next .lines
 
 pub drafted-lines :
     (s : State) (o : Offer) (next : State) (m : ℕ) (rs : List Rule) → drafted s o ≡ Draft.go next m rs
-    → AllFit (liveCount s) (s .lines) (o .puts) × (next .lines ≡ allWith (liveCount s) (s .lines) (o .puts))
+    → AllFit (liveCount s) (s .lines) (o .allocations) × (next .lines ≡ allWith (liveCount s) (s .lines) (o .allocations))
 unfolding drafted joining linesToBe
-drafted-lines s o next m rs e = go (full s (pointsOf o)) e
+drafted-lines s o next m rs e = go (full s (newPoints o)) e
   where
     by :
-        (q : Placed) → placed (s .settings) (liveCount s) 0 (o .puts) (s .lines) [] ≡ q → joining s o q ≡ Draft.go next m rs
-        → AllFit (liveCount s) (s .lines) (o .puts) × (next .lines ≡ allWith (liveCount s) (s .lines) (o .puts))
+        (q : Placed) → placed (s .settings) (liveCount s) 0 (o .allocations) (s .lines) [] ≡ q → joining s o q ≡ Draft.go next m rs
+        → AllFit (liveCount s) (s .lines) (o .allocations) × (next .lines ≡ allWith (liveCount s) (s .lines) (o .allocations))
     by (Placed.stop c) is e = let z : _≡_ {A = ℕ} 0 1 = cc in absurd (omega arith)
     by (Placed.done ls qs) is e =
-        let fits = placed-done (s .settings) (liveCount s) 0 (o .puts) (s .lines) ls [] qs is in
+        let fits = placed-done (s .settings) (liveCount s) 0 (o .allocations) (s .lines) ls [] qs is in
         (fits .0, sym (ap linesToBe e) ∙ fits .1)
 
     go :
-        (b : Bool) → cond b (Draft.stop (plain 14)) (joining s o (placed (s .settings) (liveCount s) 0 (o .puts) (s .lines) [])) ≡ Draft.go next m rs
-        → AllFit (liveCount s) (s .lines) (o .puts) × (next .lines ≡ allWith (liveCount s) (s .lines) (o .puts))
+        (b : Bool) → cond b (Draft.stop (plain 14)) (joining s o (placed (s .settings) (liveCount s) 0 (o .allocations) (s .lines) [])) ≡ Draft.go next m rs
+        → AllFit (liveCount s) (s .lines) (o .allocations) × (next .lines ≡ allWith (liveCount s) (s .lines) (o .allocations))
     go true e = let z : _≡_ {A = ℕ} 0 1 = cc in absurd (omega arith)
-    go false e = by (placed (s .settings) (liveCount s) 0 (o .puts) (s .lines) []) refl e
+    go false e = by (placed (s .settings) (liveCount s) 0 (o .allocations) (s .lines) []) refl e

@@ -13,7 +13,7 @@ use borrow.Author.Tests.{ltb-true}
 use Rattle.spec_plain.specs.Limits.{mostUses}
 use Rattle.spec_plain.specs.declared.Settings.{Settings}
 use Rattle.spec_plain.specs.declared.Use.{Use}
-use Rattle.spec_plain.specs.declared.Put.{Put}
+use Rattle.spec_plain.specs.declared.Allocation.{Allocation}
 use Rattle.spec_plain.specs.declared.Rule.{Rule}
 use Rattle.spec_plain.specs.Plain.{noUse, inOrder, inserted, ruleBefore, ruleAfter, usedFrom, placed, Placed}
 use Rattle.part_lines.specs.Placing.{lineFor, linesWith}
@@ -50,18 +50,18 @@ module _ (s : Settings) (U : Use → Type 0) (R : Rule → Type 0) (order : (a b
       go false e = tt
 
   -- what holds of the allocations left, the lines and the rules so far
-  abbrev Before : ℕ → ℕ → List Put → List (List Use) → List Rule → Type 0
+  abbrev Before : ℕ → ℕ → List Allocation → List (List Use) → List Rule → Type 0
   Before x n ps ls rs = All (λ p. U (usedFrom x p)) ps × All (All U) ls × All R rs × (length rs + 2 * length ps ≤ n)
 
   pub placed-all :
-      (x i n : ℕ) (ps : List Put) (ls : List (List Use)) (rs : List Rule)
+      (x i n : ℕ) (ps : List Allocation) (ls : List (List Use)) (rs : List Rule)
       → All (λ p. U (usedFrom x p)) ps → All (All U) ls → All R rs → length rs + 2 * length ps ≤ n → Placing n (placed s x i ps ls rs)
   unfolding Placing
   placed-all x i n ps ls rs a b c le =
       placed-keeps s x (Before x n) (Placing n) (λ k. (tt, tt)) (λ ks qs h. (h .1, h .2, omega (arith, h .3))) next i ps ls rs (a, b, c, le)
     where
       next :
-          (p : Put) (ps : List Put) (ls : List (List Use)) (rs : List Rule) → p .place ≤ length (lineFor ls p) → length (lineFor ls p) < mostUses
+          (p : Allocation) (ps : List Allocation) (ls : List (List Use)) (rs : List Rule) → p .place ≤ length (lineFor ls p) → length (lineFor ls p) < mostUses
           → Before x n (p ∷ ps) ls rs → Before x n ps (linesWith x ls p) (rs ++ rulesFor s x ls p)
       next p ps ls rs fits room h =
           let line = lineFor ls p in

@@ -5,7 +5,7 @@
 --   Planning        a draft that went on
 --   plan-asks       what trying the rules and adding the job ask
 --   plan-17         the answer where the rules do not agree
---   plan-puts, plan-joins   where they do: what putting in the uses asks, and the answer
+--   plan-allocations, plan-joins   where they do: what putting in the uses asks, and the answer
 use Prim.Native.Nat.{ℕ, zero, suc, _+_, _<_, _≤_}
 use mathlib.Core.Path.{_≡_, refl, sym, _∙_, ap, ap₂, subst}
 use mathlib.Core.Bool.{Bool, true, false}
@@ -20,7 +20,7 @@ use Rattle.spec_plain.specs.declared.Use.{Use}
 use Rattle.spec_plain.specs.Plain.{Offer, withSettings, noUse, total, liveCount, jobFrom, drafted}
 use Rattle.part_lines.specs.declared.Jobs.{Jobs}
 use Rattle.part_lines.specs.declared.Line.{Line}
-use Rattle.part_lines.specs.Held.{jobsOf, jobsFrom, lineOf, lineFrom, linesOf, linesFrom, rulesOf, noLine, mostRules}
+use Rattle.part_lines.specs.ArrayLists.{jobsOf, jobsFrom, lineOf, lineFrom, linesOf, linesFrom, rulesOf, noLine, mostRules}
 use Rattle.part_lines.specs.Asked.{Lined, Ready}
 use Rattle.part_lines.specs.Placing.{allWith, AllFit}
 use Rattle.part_lines.proofs.Padded.{length-padded}
@@ -31,12 +31,12 @@ use Rattle.part_settling.specs.Settled.{AllUsable, addedAll, outcome}
 use Rattle.part_offered.specs.Sized.{SizedOffer}
 use Rattle.part_boardwords.specs.Layout.{clockAt, countAt, linesAt, cellsAt, boardSize}
 use Rattle.part_boardwords.specs.Words.{wordIn, settingsRead, heldJobs, lineAt, boardIn, linesRead, linesIn}
-use Rattle.part_boardwords.specs.Codec.{linesWords, put}
+use Rattle.part_boardwords.specs.Codec.{linesWords, overwritten}
 use Rattle.base_lists.proofs.Build.{build-length}
 use Rattle.part_boardwords.proofs.Boards.{held-jobs}
 use Rattle.part_boardwords.proofs.Lent.{lentTable, wordsWith, cells-lent, unwritten}
-use Rattle.part_boardwords.proofs.Put.{length-lines}
-use Rattle.part_boardwords.proofs.Written.{put-again, written-lines}
+use Rattle.part_boardwords.proofs.Overwritten.{length-lines}
+use Rattle.part_boardwords.proofs.Written.{overwritten-again, written-lines}
 use Rattle.part_sound.specs.Sound.{sound}
 use Rattle.part_drafts.specs.declared.drafting.Drafted.{Drafted}
 use Rattle.part_drafts.specs.DraftedAs.{DraftedAs}
@@ -64,13 +64,13 @@ module _ (w : List ℕ) (e : sound (boardIn w) ≡ true) where
 
   tidied-lines :
       (x y : List ℕ) → cellsAt ≤ length x → linesRead (wordIn x) ≡ linesRead (wordIn w)
-      → y ≡ put x linesAt (linesWords (linesFrom (linesOf (linesRead (wordIn x)))))
+      → y ≡ overwritten x linesAt (linesWords (linesFrom (linesOf (linesRead (wordIn x)))))
       → (linesIn y ≡ linesIn w) × Ready (linesRead (wordIn y))
   tidied-lines x y room kept ey =
       let ls = linesRead (wordIn w) in
       let many : length ls ≡ 16 = build-length (lineAt (wordIn w)) resources in
       let back : linesRead (wordIn y) ≡ linesFrom (linesOf ls) =
-      ap (λ (v : List ℕ). linesRead (wordIn v)) (ey ∙ ap (λ (l : List Line). put x linesAt (linesWords (linesFrom (linesOf l)))) kept)
+      ap (λ (v : List ℕ). linesRead (wordIn v)) (ey ∙ ap (λ (l : List Line). overwritten x linesAt (linesWords (linesFrom (linesOf l)))) kept)
       ∙ written-lines x (linesFrom (linesOf ls)) room (length-map (linesOf ls) lineFrom ∙ (length-map ls lineOf ∙ many))
       (λ k h. held-full ls k (omega (arith, many))) in
       tidied-ready ls (linesRead (wordIn y)) sound-lined many back
@@ -139,7 +139,7 @@ module _ {w : List ℕ} {o : Offer} {r : Drafted} {n m top : ℕ} (p : Planning 
     -- and where they do: x with the job, and y with the lines tidied
     module _
         (holds : ok ≡ true) (same : length (wordsWith w t) ≡ boardSize) (x y : List ℕ) (ex : x ≡ fronted (wordsWith w t) (wordIn w clockAt) jobs-then)
-        (ey : y ≡ put x linesAt (linesWords (linesFrom (linesOf (linesRead (wordIn x))))))
+        (ey : y ≡ overwritten x linesAt (linesWords (linesFrom (linesOf (linesRead (wordIn x))))))
       where
         long : length x ≡ boardSize
         long = length-fronted w (p .is-sound) (p .size) t (wordIn w clockAt) jobs-then x ex same
@@ -148,25 +148,25 @@ module _ {w : List ℕ} {o : Offer} {r : Drafted} {n m top : ℕ} (p : Planning 
         tidy = tidied-lines w (p .is-sound) x y (omega (arith, long)) (lines-kept w (p .is-sound) (p .size) t (wordIn w clockAt) jobs-then x ex) ey
 
         -- what putting in the uses asks
-        pub plan-puts : Ready (linesRead (wordIn y)) × AllFit n (linesIn y) (o .puts)
+        pub plan-allocations : Ready (linesRead (wordIn y)) × AllFit n (linesIn y) (o .allocations)
         unfolding liveCount
-        plan-puts = (
+        plan-allocations = (
           tidy .1,
-          subst (λ (k : ℕ). AllFit k (linesIn y) (o .puts)) (sym (p .live))
-              (subst (λ (ls : List (List Use)). AllFit (liveCount (stateOf (boardIn w))) ls (o .puts)) (sym (tidy .0)) (g .fits)),
+          subst (λ (k : ℕ). AllFit k (linesIn y) (o .allocations)) (sym (p .live))
+              (subst (λ (ls : List (List Use)). AllFit (liveCount (stateOf (boardIn w))) ls (o .allocations)) (sym (tidy .0)) (g .fits)),
         )
 
         -- and the words with them
         pub plan-joins :
-            (z : List ℕ) → z ≡ put y linesAt (linesWords (linesFrom (allWith n (linesIn y) (o .puts))))
+            (z : List ℕ) → z ≡ overwritten y linesAt (linesWords (linesFrom (allWith n (linesIn y) (o .allocations))))
             → (Accepted ≡ answer .ruling) × (z ≡ wordsAfter w answer)
         unfolding liveCount
         plan-joins z ez =
             let old = linesFrom (linesOf (linesRead (wordIn x))) in
-            let lines = linesFrom (allWith n (linesIn y) (o .puts)) in
-            let as-drafted = ap₂ (λ (k : ℕ) (ls : List (List Use)). linesFrom (allWith k ls (o .puts))) (p .live) (tidy .0) in
+            let lines = linesFrom (allWith n (linesIn y) (o .allocations)) in
+            let as-drafted = ap₂ (λ (k : ℕ) (ls : List (List Use)). linesFrom (allWith k ls (o .allocations))) (p .live) (tidy .0) in
             answered w z answer _ (joined g n m (p .live) (p .new) ok t on-board jobs-then lines holds refl as-drafted)
             (assembled w (p .is-sound) (p .size) t (wordIn w clockAt) jobs-then x ex same lines z
             (ez
-            ∙ ap (λ (v : List ℕ). put v linesAt (linesWords lines)) ey
-            ∙ put-again x linesAt (linesWords old) (linesWords lines) (length-lines old ∙ sym (length-lines lines)) (omega (arith, long, length-lines lines))))
+            ∙ ap (λ (v : List ℕ). overwritten v linesAt (linesWords lines)) ey
+            ∙ overwritten-again x linesAt (linesWords old) (linesWords lines) (length-lines old ∙ sym (length-lines lines)) (omega (arith, long, length-lines lines))))

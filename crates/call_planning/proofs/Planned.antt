@@ -14,20 +14,20 @@ use lib.ListN.{length, getD}
 use Rattle.base_rulings.specs.declared.Cause.{Cause}
 use Rattle.base_rulings.specs.declared.Ruling.{Ruling}
 use Rattle.base_rulings.specs.declared.Ruling.the-variants.{Accepted, Refused}
-use Rattle.base_rulings.proofs.Laws.{refused-no}
+use Rattle.base_rulings.proofs.RulingLaws.{refused-no}
 use Rattle.read_plant.specs.Plant.{plantRuling}
 use Rattle.read_offer.specs.Offer.{offerRuling, consistencyRuling, chainRuling}
 use Rattle.spec_plain.specs.Limits.{resources, side, mostSteps}
-use Rattle.spec_plain.specs.declared.Put.{Put}
+use Rattle.spec_plain.specs.declared.Allocation.{Allocation}
 use Rattle.spec_plain.specs.declared.Rule.{Rule}
 use Rattle.spec_plain.specs.declared.Use.{Use}
 use Rattle.spec_plain.specs.Plain.{Offer, State, Draft, withJobs, withLines, liveCount, jobFrom, drafted}
 use Rattle.part_lines.specs.declared.Jobs.{Jobs}
 use Rattle.part_lines.specs.declared.Line.{Line}
-use Rattle.part_putwords.specs.Puts.{putAt, putsIn, putsSize}
+use Rattle.part_allocations.specs.Allocations.{allocationAt, allocationsIn, allocationsSize}
 use Rattle.part_lines.specs.declared.Steps.{Steps}
-use Rattle.part_lines.specs.Held.{jobsOf, jobsFrom, linesFrom, rulesOf, rulesFrom, noStep, stepsOf, mostRules}
-use Rattle.part_lines.specs.Held as Held
+use Rattle.part_lines.specs.ArrayLists.{jobsOf, jobsFrom, linesFrom, rulesOf, rulesFrom, noStep, stepsOf, mostRules}
+use Rattle.part_lines.specs.ArrayLists as Held
 use Rattle.part_lines.specs.Asked.{Readable}
 use Rattle.part_lines.specs.Placing.{allWith, AllFit}
 use Rattle.part_lines.proofs.Padded.{take-padded}
@@ -36,16 +36,16 @@ use Rattle.base_lists.proofs.All.{all-at}
 use Rattle.spec_stn.specs.Table.{bias, Closed}
 use Rattle.part_gaps.specs.Cells.{tableOf, grown}
 use Rattle.spec_rulebook.specs.Reading.{Reading, offerOf, past, readingOf}
-use Rattle.part_offered.specs.Held.{stepsHeld}
-use Rattle.part_offered.specs.Sized.{SizedPut, SizedOffer}
+use Rattle.part_offered.specs.StepArray.{stepsHeld}
+use Rattle.part_offered.specs.Sized.{SizedAllocation, SizedOffer}
 use Rattle.part_settling.specs.Settled.{AllUsable, addedAll, outcome}
 use Rattle.part_boardwords.specs.Board.{Board, boardWith}
 use Rattle.part_sound.specs.Sound.{Sound, sound}
 use Rattle.part_drafts.specs.declared.drafting.Drafted.{Drafted}
 use Rattle.part_drafts.specs.DraftedAs.{DraftedAs}
-use Rattle.part_putwords.specs.ReadPuts.{ReadPuts}
+use Rattle.part_allocations.specs.ReadAllocations.{ReadAllocations}
 use Rattle.call_board.specs.Boards.{stateOf, boardOf}
-use Rattle.call_board.specs.Calls.{refused, refusal, settled, after, decided, heard, planned}
+use Rattle.call_board.specs.Calls.{refusedWith, refusal, settled, unlessRefused, decided, heard, planned}
 use Rattle.call_planning.proofs.Drafts.{Joins, DraftJoins, drafted-joins, drafted-lines}
 use Rattle.part_lines.proofs.RuleLaws.{rules-back}
 use Rattle.call_board.proofs.OnSound.{closed, fitting}
@@ -60,15 +60,15 @@ pub record Going (b : Board) (o : Offer) (r : Drafted) : Type 0 where
   pub rules : r .rules ≡ rulesFrom rs
   pub joins : Joins (stateOf b) o next m rs
   -- its allocations fit, and the lines to be are those with them put in
-  pub fits : AllFit (liveCount (stateOf b)) (stateOf b .lines) (o .puts)
-  pub lines : next .lines ≡ allWith (liveCount (stateOf b)) (stateOf b .lines) (o .puts)
+  pub fits : AllFit (liveCount (stateOf b)) (stateOf b .lines) (o .allocations)
+  pub lines : next .lines ≡ allWith (liveCount (stateOf b)) (stateOf b .lines) (o .allocations)
 
 module _ (b : Board) (o : Offer) (r : Drafted) (e : DraftedAs r (drafted (stateOf b) o)) where
-  pub stopped : (c : Cause) → r .ruling ≡ Refused c → refused b c ≡ decided b (drafted (stateOf b) o)
+  pub stopped : (c : Cause) → r .ruling ≡ Refused c → refusedWith b c ≡ decided b (drafted (stateOf b) o)
   unfolding decided DraftedAs
   stopped c h = go (drafted (stateOf b) o) e
     where
-      go : (q : Draft) → DraftedAs r q → refused b c ≡ decided b q
+      go : (q : Draft) → DraftedAs r q → refusedWith b c ≡ decided b q
       go (Draft.stop d) f = ap (λ (x : Ruling). record { ruling = x; board = b }) (sym h ∙ f)
       go (Draft.go next m rs) f = absurd (refused-no c (sym h ∙ f .0))
 
@@ -115,7 +115,7 @@ module _ {b : Board} {o : Offer} {r : Drafted} (g : Going b o r) where
 
       pub joined :
           (jobs : Jobs) (lines : List Line) → ok ≡ true → jobs ≡ jobsFrom (jobsOf (b .jobs) ++ (jobFrom o ∷ []))
-          → lines ≡ linesFrom (allWith (liveCount (stateOf b)) (stateOf b .lines) (o .puts))
+          → lines ≡ linesFrom (allWith (liveCount (stateOf b)) (stateOf b .lines) (o .allocations))
           → record {
             ruling = Accepted;
             board = boardWith b (b .clock) jobs lines cells;
@@ -134,7 +134,7 @@ module _ {b : Board} {o : Offer} {r : Drafted} (g : Going b o r) where
 -- ---- the offer as the code holds it
 
 module _ (o : Offer) (s : SizedOffer o) (steps : Steps) (es : steps ≡ stepsHeld (o .steps)) where
-  pub held-offer : (batch : ℕ) (ps : List Put) → batch ≡ o .batch → ps ≡ o .puts → Held.heldOffer batch steps ps ≡ o
+  pub held-offer : (batch : ℕ) (ps : List Allocation) → batch ≡ o .batch → ps ≡ o .allocations → Held.heldOffer batch steps ps ≡ o
   held-offer batch ps eb ep = rw (eb, es, ep, take-padded mostSteps noStep (o .steps) (s .few))
 
   pub held-list : steps .count ≡ length (stepsOf steps)
@@ -143,50 +143,50 @@ module _ (o : Offer) (s : SizedOffer o) (steps : Steps) (es : steps ≡ stepsHel
   pub held-count : (steps .count ≡ length (o .steps)) × (steps .count ≤ mostSteps)
   held-count = let n = ap (λ (x : Steps). x .count) es in (n, omega (arith, n, s .few))
 
-pub held-read : (o : Offer) → SizedOffer o → (puts : List ℕ) (n : ℕ) → putsSize ≤ length puts → putsIn puts n ≡ o .puts → ReadPuts puts n
-held-read o s puts n room e =
-    let many : n ≡ length (o .puts) = sym (build-length (putAt puts) n) ∙ ap length e in
+pub held-read : (o : Offer) → SizedOffer o → (allocations : List ℕ) (n : ℕ) → allocationsSize ≤ length allocations → allocationsIn allocations n ≡ o .allocations → ReadAllocations allocations n
+held-read o s allocations n room e =
+    let many : n ≡ length (o .allocations) = sym (build-length (allocationAt allocations) n) ∙ ap length e in
     record {
       there = omega (arith, many, s .count);
       few = omega (arith, many, s .count);
       each = λ k h.
-          let is : getD (o .puts) k (putAt puts k) ≡ putAt puts k =
-          ap (λ (ps : List Put). getD ps k (putAt puts k)) (sym e) ∙ build-at (putAt puts) n k (putAt puts k) h in
-          subst Readable is (all-at (SizedPut (length (o .steps))) (o .puts) (putAt puts k) (s .puts) k (omega (arith, many)) .readable);
+          let is : getD (o .allocations) k (allocationAt allocations k) ≡ allocationAt allocations k =
+          ap (λ (ps : List Allocation). getD ps k (allocationAt allocations k)) (sym e) ∙ build-at (allocationAt allocations) n k (allocationAt allocations k) h in
+          subst Readable is (all-at (SizedAllocation (length (o .steps))) (o .allocations) (allocationAt allocations k) (s .allocations) k (omega (arith, many)) .readable);
     }
 
 -- ---- before the offer is read
 
 module _ (b : Board) (p o : List ℕ) where
-  pub bad-plant : (c : Cause) → plantRuling p ≡ Refused c → refused b c ≡ planned b p o
-  unfolding planned after
+  pub bad-plant : (c : Cause) → plantRuling p ≡ Refused c → refusedWith b c ≡ planned b p o
+  unfolding planned unlessRefused
   bad-plant c e = rw e
 
   module _ (e : plantRuling p ≡ Accepted) where
     pub unsound : sound b ≡ false → refusal b 6 ≡ planned b p o
-    unfolding planned after
+    unfolding planned unlessRefused
     unsound u = rw (e, u)
 
     abbrev reading : Reading
     reading = readingOf (stateOf b) p o
 
     pub on-reading : sound b ≡ true → heard b reading ≡ planned b p o
-    unfolding planned after
+    unfolding planned unlessRefused
     on-reading u = rw (e, u)
 
     -- ---- the reading
 
-    pub bad-format : (c : Cause) → offerRuling p o ≡ Refused c → refused b c ≡ heard b reading
+    pub bad-format : (c : Cause) → offerRuling p o ≡ Refused c → refusedWith b c ≡ heard b reading
     unfolding heard readingOf past
     bad-format c f = rw (e, f)
 
     module _ (f : offerRuling p o ≡ Accepted) where
-      pub bad-facts : (c : Cause) → consistencyRuling o ≡ Refused c → refused b c ≡ heard b reading
+      pub bad-facts : (c : Cause) → consistencyRuling o ≡ Refused c → refusedWith b c ≡ heard b reading
       unfolding heard readingOf past
       bad-facts c g = rw (e, f, g)
 
       module _ (g : consistencyRuling o ≡ Accepted) where
-        pub bad-chain : (c : Cause) → chainRuling p o ≡ Refused c → refused b c ≡ heard b reading
+        pub bad-chain : (c : Cause) → chainRuling p o ≡ Refused c → refusedWith b c ≡ heard b reading
         unfolding heard readingOf past
         bad-chain c h = rw (e, f, g, h)
 

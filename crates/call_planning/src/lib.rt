@@ -14,8 +14,8 @@ use part_lines::Steps;
 use part_linewords::insert_all;
 use part_linewords::tidy_lines;
 use part_offered::read_durations;
-use part_offered::read_puts;
-use part_putwords::PUTS_SIZE;
+use part_offered::read_allocations;
+use part_allocations::ALLOCATIONS_SIZE;
 use part_settling::try_grown;
 use part_sound::is_sound;
 use read_offer::check_chain;
@@ -32,28 +32,28 @@ ghost use Rattle.base_rulings.specs.declared.Ruling.the-variants.{Accepted};
 ghost use Rattle.read_plant.specs.Plant.{plantRuling, trailerOf};
 ghost use Rattle.spec_plain.specs.Limits.{mostSteps};
 ghost use Rattle.spec_plain.specs.Plain.{drafted};
-ghost use Rattle.part_lines.specs.Held.{stepsOf, heldOffer};
-ghost use Rattle.part_putwords.specs.Puts.{putsIn};
+ghost use Rattle.part_lines.specs.ArrayLists.{stepsOf, heldOffer};
+ghost use Rattle.part_allocations.specs.Allocations.{allocationsIn};
 ghost use Rattle.spec_rulebook.specs.Reading.{readingOf};
 ghost use Rattle.part_offered.specs.Sized.{SizedOffer};
 ghost use Rattle.part_boardwords.specs.Layout.{boardSize};
 ghost use Rattle.part_boardwords.specs.Words.{boardIn, lentBoard};
 ghost use Rattle.part_sound.specs.Sound.{sound};
-ghost use Rattle.part_putwords.specs.ReadPuts.{ReadPuts};
+ghost use Rattle.part_allocations.specs.ReadAllocations.{ReadAllocations};
 ghost use Rattle.call_board.specs.Boards.{stateOf};
 ghost use Rattle.call_board.specs.Calls.{decided, heard, planned};
 ghost use Rattle.call_board.specs.InWords.{wordsAfter};
 
 // An offer that was read, on a sound board: 14 to 17, or the words of the board with its job.
-fn plan_job(w: &mut [u32], batch: u32, steps: Steps, puts: &[u32], many: usize) -> Ruling
+fn plan_job(w: &mut [u32], batch: u32, steps: Steps, allocations: &[u32], many: usize) -> Ruling
     requires { ⌜ length (now w) ≡ boardSize ⌝ }
-    requires { ⌜ (sound (boardIn (now w)) ≡ true) × (steps .count ≡ length (stepsOf steps)) × (steps .count ≤ mostSteps) × ReadPuts (now puts) many × SizedOffer (heldOffer batch steps (putsIn (now puts) many)) ⌝ }
-    ensures ruling { λ r. ⌜ r ≡ decided (boardIn (now (w .entry))) (drafted (stateOf (boardIn (now (w .entry)))) (heldOffer batch steps (putsIn (now (puts .entry)) many))) .ruling ⌝ }
-    ensures words { λ _. ⌜ now (w .exit) ≡ wordsAfter (now (w .entry)) (decided (boardIn (now (w .entry))) (drafted (stateOf (boardIn (now (w .entry)))) (heldOffer batch steps (putsIn (now (puts .entry)) many)))) ⌝ }
+    requires { ⌜ (sound (boardIn (now w)) ≡ true) × (steps .count ≡ length (stepsOf steps)) × (steps .count ≤ mostSteps) × ReadAllocations (now allocations) many × SizedOffer (heldOffer batch steps (allocationsIn (now allocations) many)) ⌝ }
+    ensures ruling { λ r. ⌜ r ≡ decided (boardIn (now (w .entry))) (drafted (stateOf (boardIn (now (w .entry)))) (heldOffer batch steps (allocationsIn (now (allocations .entry)) many))) .ruling ⌝ }
+    ensures words { λ _. ⌜ now (w .exit) ≡ wordsAfter (now (w .entry)) (decided (boardIn (now (w .entry))) (drafted (stateOf (boardIn (now (w .entry)))) (heldOffer batch steps (allocationsIn (now (allocations .entry)) many)))) ⌝ }
 {
     let settings = settings_in(w);
     let n = points_in(w);
-    let drafted = draft(w, settings, n, batch, steps, puts, many);
+    let drafted = draft(w, settings, n, batch, steps, allocations, many);
     let ruling = drafted.ruling;
     if let Ruling::Refused(cause) = ruling {
         return Ruling::Refused(cause);
@@ -70,7 +70,7 @@ fn plan_job(w: &mut [u32], batch: u32, steps: Steps, puts: &[u32], many: usize) 
     }
     add_job(w, more as u32, batch);
     tidy_lines(w);
-    insert_all(w, n + 1, puts, many);
+    insert_all(w, n + 1, allocations, many);
     Ruling::Accepted
 }
 
@@ -94,9 +94,9 @@ fn plan_offer(w: &mut [u32], plant: &[u8], end: Trailer, offer: &[u8]) -> Ruling
         return Ruling::Refused(cause);
     }
     let steps = read_durations(plant, end, offer);
-    let mut puts = [0u32; PUTS_SIZE];
-    let many = read_puts(plant, end, offer, &mut puts);
-    plan_job(w, u32_at(offer, 0), steps, &puts, many)
+    let mut allocations = [0u32; ALLOCATIONS_SIZE];
+    let many = read_allocations(plant, end, offer, &mut allocations);
+    plan_job(w, u32_at(offer, 0), steps, &allocations, many)
 }
 
 // The first of refusals 1 to 4, 6 and 7 to 17, or the words of the board with the offer's job.

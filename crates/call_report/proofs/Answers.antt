@@ -19,10 +19,10 @@ use Rattle.base_rulings.specs.declared.Ruling.{Ruling}
 use Rattle.base_rulings.specs.declared.Ruling.the-variants.{Accepted, Refused}
 use Rattle.base_rulings.specs.Answer.{plain, refuse}
 use Rattle.base_rulings.specs.Order.{ifAccepted}
-use Rattle.base_rulings.proofs.Laws.{refused-no}
+use Rattle.base_rulings.proofs.RulingLaws.{refused-no}
 use Rattle.spec_plain.specs.Limits.{mostPoints}
 use Rattle.spec_plain.specs.Plain.{total}
-use Rattle.part_lines.specs.Held.{jobsOf}
+use Rattle.part_lines.specs.ArrayLists.{jobsOf}
 use Rattle.part_boardwords.specs.Board.{Board}
 use Rattle.part_boardwords.specs.Layout.{boardSize}
 use Rattle.part_boardwords.specs.Words.{wordIn, heldJobs, cellsRead, boardIn}
@@ -32,7 +32,7 @@ use Rattle.call_report.specs.declared.Row.{Row}
 use Rattle.call_report.specs.declared.Asked.{Asked}
 use Rattle.call_report.specs.Rows.{rowsOf, laid, reportRuling, reported, rulingIn, reportedIn, reportedInto, asked}
 use Rattle.call_report.proofs.Laid.{laid-none, laid-front}
-use Rattle.call_report.proofs.Laws.{length-rows}
+use Rattle.call_report.proofs.RowLaws.{length-rows}
 
 -- ---- what a report comes to
 

@@ -1,4 +1,4 @@
 pub mod Answers
 pub mod Laid
-pub mod Laws
+pub mod RowLaws
 pub mod RowByRow

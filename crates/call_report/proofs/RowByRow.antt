@@ -1,7 +1,7 @@
 -- The way from row to row: where the cursor stands after k turns, and that the row there is row k.
 --   Rest                     the rows from x on are those of the jobs from a place on: rest-start, rest-here, rest-next
 --   Stands                   a cursor stands at row k: stands-first, stands-row, stands-next
---   cursor-fits, cursor-row  on a sound board the cursor after k turns names a job and a point, and the row there is row k
+--   cursor-fits, cursor-row  on a sound board the cursor nextCursor k turns names a job and a point, and the row there is row k
 --   after-point, after-job, row-lent   the cursor moved on, and a row, as the code gives them
 use Prim.Native.Nat.{ℕ, zero, suc, _+_, _-_, _≤_, _<_}
 use mathlib.Core.Path.{_≡_, refl, sym, _∙_, ap}
@@ -15,7 +15,7 @@ use borrow.Author.Tests.{ltb-false, ltb-true, leb-true, lt-ltb, le-ltb}
 use Rattle.spec_plain.specs.Limits.{mostJobs, mostPoints}
 use Rattle.spec_plain.specs.declared.Job.{Job}
 use Rattle.spec_plain.specs.Plain.{total}
-use Rattle.part_lines.specs.Held.{jobsOf, noJob}
+use Rattle.part_lines.specs.ArrayLists.{jobsOf, noJob}
 use Rattle.base_lists.proofs.AllBelow.{both-true}
 use Rattle.spec_stn.specs.Table.{earliest, latest}
 use Rattle.part_gaps.specs.Cells.{tableOf}
@@ -26,8 +26,8 @@ use Rattle.part_boardwords.proofs.Boards.{held-jobs, held-job, job-next, job-ov
 use Rattle.part_sound.specs.Sound.{sound, allOf, sizedJob}
 use Rattle.part_sound.proofs.Soundness.{sound-sized, sound-each}
 use Rattle.call_report.specs.declared.Cursor.{Cursor}
-use Rattle.call_report.specs.Rows.{rowOf, rowsFrom, rowsIn, rowsOf, noRow, after, cursor}
-use Rattle.call_report.proofs.Laws.{same-row, row-here, row-on, length-rows}
+use Rattle.call_report.specs.Rows.{rowOf, rowsFrom, rowsIn, rowsOf, noRow, nextCursor, cursor}
+use Rattle.call_report.proofs.RowLaws.{same-row, row-here, row-on, length-rows}
 
 -- ---- the rows from a job on
 
@@ -113,11 +113,11 @@ module _ (w : Words) (s : sound (boardRead w) ≡ true) where
         let row = rest-here (cellsRead w) (jobsOf (heldJobs w)) (st .x) (c .place) (jobAt w (c .place)) next (st .rest) (c .point) (st .inside place-fits) in
         rw (st .number) at row
 
-    stands-next : Stands w (suc k) (after w c)
-    unfolding after total
+    stands-next : Stands w (suc k) (nextCursor w c)
+    unfolding nextCursor total
     stands-next = go (ltb (c .point + 1) (jobAt w (c .place) .points)) refl
       where
-        go : (t : Bool) → ltb (c .point + 1) (jobAt w (c .place) .points) ≡ t → Stands w (suc k) (after w c)
+        go : (t : Bool) → ltb (c .point + 1) (jobAt w (c .place) .points) ≡ t → Stands w (suc k) (nextCursor w c)
         go true e = rw e (record {
           x = st .x;
           number = omega (arith, st .number);
@@ -156,14 +156,14 @@ module _ (w : Words) (s : sound (boardRead w) ≡ true) where
 -- ---- as the code gives them
 
 module _ (w : Words) (c : Cursor) (j : Job) (is : j ≡ jobAt w (c .place)) where
-  pub after-point : c .point + 1 < j .points → record { place = c .place; point = c .point + 1 } ≡ after w c
-  unfolding after
+  pub after-point : c .point + 1 < j .points → record { place = c .place; point = c .point + 1 } ≡ nextCursor w c
+  unfolding nextCursor
   after-point h =
       let points = ap (λ (i : Job). i .points) is in
       rw (lt-ltb (c .point + 1) (jobAt w (c .place) .points) (omega (arith, h, points)))
 
-  pub after-job : j .points ≤ c .point + 1 → record { place = c .place + 1; point = 0 } ≡ after w c
-  unfolding after
+  pub after-job : j .points ≤ c .point + 1 → record { place = c .place + 1; point = 0 } ≡ nextCursor w c
+  unfolding nextCursor
   after-job h =
       let points = ap (λ (i : Job). i .points) is in
       rw (le-ltb (c .point + 1) (jobAt w (c .place) .points) (omega (arith, h, points)))

@@ -8,9 +8,9 @@
 --   reportRuling b n   the ruling on a report of the board b into a list of n rows
 --   reported b l       the answer to a report into the list l: the ruling, and the list after the call
 --   rulingIn w n, reportedIn w l   the same of the board that the words w hold; 6 where they are not as many as a board has
---   reportedInto w n l a report into the first n rows of an array of 64, all of them where n is more: the ruling, and the array after the call
+--   reportedInto w n l a report into the first n rows of an array of 64, all of them where n is more: the ruling, and the array nextCursor the call
 --   asked w n          what a report into a list of n rows comes to, before a row is stored: the ruling, and how many rows are to be stored
---   cursor w k         where row k stands in the words w: its job's place, its point's place in the job;  after w c: where the row after it does
+--   cursor w k         where row k stands in the words w: its job's place, its point's place in the job;  nextCursor w c: where the row after it does
 use Prim.Native.Nat.{ℕ, zero, suc, _+_, min}
 use mathlib.Core.Bool.{cond, not}
 use mathlib.Core.List.{List, [], _∷_, _++_}
@@ -22,7 +22,7 @@ use Rattle.base_rulings.specs.Answer.{refuse}
 use Rattle.base_rulings.specs.Order.{ifAccepted}
 use Rattle.spec_plain.specs.Limits.{mostPoints}
 use Rattle.spec_plain.specs.declared.Job.{Job}
-use Rattle.part_lines.specs.Held.{jobsOf}
+use Rattle.part_lines.specs.ArrayLists.{jobsOf}
 use Rattle.spec_stn.specs.Table.{Table, earliest, latest}
 use Rattle.part_gaps.specs.Cells.{tableOf}
 use Rattle.part_boardwords.specs.Board.{Board}
@@ -102,10 +102,10 @@ unfoldable pub asked : List ℕ → ℕ → Asked
 asked w n = record { ruling = rulingIn w n; stores = ifAccepted (rulingIn w n) (length (rowsOf (boardIn w))) 0 }
 
 -- the job's next point, or the first of the next job
-unfoldable pub after : Words → Cursor → Cursor
-after w c = cond (ltb (c .point + 1) (jobAt w (c .place) .points))
+unfoldable pub nextCursor : Words → Cursor → Cursor
+nextCursor w c = cond (ltb (c .point + 1) (jobAt w (c .place) .points))
     (record { place = c .place; point = c .point + 1 }) (record { place = c .place + 1; point = 0 })
 
 unfoldable pub cursor : Words → ℕ → Cursor
 cursor w zero = record { place = 0; point = 0 }
-cursor w (suc k) = after w (cursor w k)
+cursor w (suc k) = nextCursor w (cursor w k)

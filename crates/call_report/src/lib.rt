@@ -28,7 +28,7 @@ ghost use Rattle.part_gaps.specs.Cells.{tableOf};
 ghost use Rattle.part_boardwords.specs.Layout.{cellsAt, boardSize};
 ghost use Rattle.part_boardwords.specs.Words.{wordIn, cellsRead, boardIn};
 ghost use Rattle.part_sound.specs.Sound.{sound};
-ghost use Rattle.call_report.specs.Rows.{rowOf, rowsOf, laid, reportedIn, reportedInto, asked, after, cursor};
+ghost use Rattle.call_report.specs.Rows.{rowOf, rowsOf, laid, reportedIn, reportedInto, asked, nextCursor, cursor};
 
 // A point's row: its job's place, its place in the job, and its earliest and latest times.
 #[repr(C)]
@@ -98,7 +98,7 @@ fn first() -> Cursor
 // Where the next row stands: the job's next point, or the first of the next job.
 fn next(w: &[u32], at: Cursor) -> Cursor
     requires { ⌜ (length (now w) ≡ boardSize) × (at .place < mostJobs) × (at .point < mostPoints) ⌝ }
-    ensures { λ r. ⌜ r ≡ after (wordIn (now (w .entry))) at ⌝ }
+    ensures { λ r. ⌜ r ≡ nextCursor (wordIn (now (w .entry))) at ⌝ }
 {
     let job = job_at(w, at.place as usize);
     if at.point + 1 < job.points {

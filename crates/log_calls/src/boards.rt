@@ -111,12 +111,12 @@ fn board_answer(hex: &[u8], board: &mut [u32; BOARD_WORDS]) -> Answer {
     if n != BOARD_BYTES {
         return Answer::Wrong(Fault::BoardBytes);
     }
-    put_words(board, &bytes);
+    store_words(board, &bytes);
     Answer::Nothing
 }
 
 // The words that these bytes hold.
-fn put_words(w: &mut [u32], bytes: &[u8])
+fn store_words(w: &mut [u32], bytes: &[u8])
     requires { ⌜ (length (now w) ≡ boardSize) × (length (now bytes) ≡ boardBytes) ⌝ }
     ensures { λ _. ⌜ now (w .exit) ≡ build (wordAt (now (bytes .entry))) boardSize ⌝ }
 {

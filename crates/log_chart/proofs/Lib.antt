@@ -1,2 +1,2 @@
-pub mod Laws
+pub mod ChartLaws
 pub mod Shown

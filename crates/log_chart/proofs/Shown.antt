@@ -12,7 +12,7 @@ use borrow.Author.Tests.{lt-ltb, ltb-true}
 use Rattle.spec_plain.specs.Limits.{resources}
 use Rattle.spec_plain.specs.declared.Use.{Use}
 use Rattle.part_lines.specs.declared.Line.{Line}
-use Rattle.part_lines.specs.Held.{lineOf, noLine}
+use Rattle.part_lines.specs.ArrayLists.{lineOf, noLine}
 use Rattle.base_lists.specs.All.{All}
 use Rattle.spec_stn.specs.Table.{Table, earliest}
 use Rattle.part_gaps.specs.Cells.{tableOf}

@@ -3,7 +3,7 @@
 --   startTime, endTime  when a use starts and ends at its earliest
 --   covers c p q u      the use u is under way at some time from p on and before q
 --   glyphOf k           the mark of the job at place k
---   markAt c js us p q z   the mark of the last of the uses us that covers the times from p on and before q; z where none does
+--   glyphOver c js us p q z  the mark of the last of the uses us that covers the times from p on and before q; z where none does
 --   firstTime, lastTime, lastEnd, linesEnd   the least and the largest of a time t and of the earliest times of points or ends of uses
 --   leftOf, rightOf     the span of the picture, from the clock and the table
 --   widths, widthOf     the round widths of a column, and the narrowest with which the picture has at most 80 columns
@@ -21,7 +21,7 @@ use Rattle.spec_plain.specs.declared.Job.{Job}
 use Rattle.spec_plain.specs.declared.Use.{Use}
 use Rattle.spec_plain.specs.Plain.{noUse}
 use Rattle.part_lines.specs.declared.Line.{Line}
-use Rattle.part_lines.specs.Held.{lineOf}
+use Rattle.part_lines.specs.ArrayLists.{lineOf}
 use Rattle.spec_stn.specs.Table.{Table, earliest}
 use Rattle.part_boardwords.specs.Layout.{lineStart}
 use Rattle.part_boardwords.specs.Words.{Words, useAt}
@@ -48,9 +48,9 @@ covers c p q u = ltb (startTime c u) q && ltb p (endTime c u)
 abbrev pub glyphOf : ℕ → ℕ
 glyphOf k = cond (ltb k 10) (48 + k) (87 + k)
 
-unfoldable pub markAt : Table → List Job → List Use → ℕ → ℕ → ℕ → ℕ
-markAt c js [] p q z = z
-markAt c js (u ∷ us) p q z = markAt c js us p q (cond (covers c p q u) (glyphOf (jobOf js (u .point))) z)
+unfoldable pub glyphOver : Table → List Job → List Use → ℕ → ℕ → ℕ → ℕ
+glyphOver c js [] p q z = z
+glyphOver c js (u ∷ us) p q z = glyphOver c js us p q (cond (covers c p q u) (glyphOf (jobOf js (u .point))) z)
 
 -- ---- the span
 

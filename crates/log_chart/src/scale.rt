@@ -9,7 +9,7 @@ ghost use mathlib.Core.Path.{_≡_};
 ghost use Prim.Native.Nat.{_+_, _≤_, _<_, min, max};
 ghost use lib.ListN.{getD, length};
 ghost use Rattle.spec_plain.specs.Limits.{cellCount, mostPoints};
-ghost use Rattle.part_lines.specs.Held.{lineOf};
+ghost use Rattle.part_lines.specs.ArrayLists.{lineOf};
 ghost use Rattle.part_gaps.specs.Cells.{tableOf};
 ghost use Rattle.part_boardwords.specs.Layout.{cellsAt, lineEnd};
 ghost use Rattle.part_boardwords.specs.Words.{wordIn, lineRead, linesRead};

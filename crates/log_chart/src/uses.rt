@@ -9,11 +9,11 @@ ghost use mathlib.Core.Bool.{cond};
 ghost use Prim.Native.Nat.{_+_, _≤_, _<_};
 ghost use lib.ListN.{length};
 ghost use Rattle.spec_plain.specs.Limits.{mostJobs, mostPoints, cellCount};
-ghost use Rattle.part_lines.specs.Held.{jobsOf, lineOf};
+ghost use Rattle.part_lines.specs.ArrayLists.{jobsOf, lineOf};
 ghost use Rattle.part_gaps.specs.Cells.{tableOf};
 ghost use Rattle.part_boardwords.specs.Layout.{countAt, cellsAt, lineEnd};
 ghost use Rattle.part_boardwords.specs.Words.{wordIn, heldJobs, lineRead};
-ghost use Rattle.log_chart.specs.Chart.{OnTable, covers, endTime, glyphOf, jobOf, markAt, startTime};
+ghost use Rattle.log_chart.specs.Chart.{OnTable, covers, endTime, glyphOf, jobOf, glyphOver, startTime};
 
 pub fn wide(n: u32) -> u64
     ensures { λ r. ⌜ r ≡ n ⌝ }
@@ -87,7 +87,7 @@ fn mark_over(t: &[u32], w: &[u32], u: Use, from: u64, to: u64, mark: u8) -> u8
 pub fn mark_at(t: &[u32], w: &[u32], at: usize, from: u64, to: u64) -> u8
     requires { ⌜ (length (now t) ≡ cellCount) × (cellsAt ≤ length (now w)) × (wordIn (now w) countAt ≤ mostJobs) ⌝ }
     requires { ⌜ (lineEnd at ≤ length (now w)) × OnTable (wordIn (now w)) at ⌝ }
-    ensures { λ r. ⌜ r ≡ markAt (tableOf (now (t .entry))) (jobsOf (heldJobs (wordIn (now (w .entry)))))
+    ensures { λ r. ⌜ r ≡ glyphOver (tableOf (now (t .entry))) (jobsOf (heldJobs (wordIn (now (w .entry)))))
         (lineOf (lineRead (wordIn (now (w .entry))) at)) from to 32 ⌝ }
 {
     let count = w[at] as usize;

@@ -14,7 +14,7 @@ ghost use Prim.Native.Nat.{_+_, _≤_, _<_};
 ghost use lib.ListN.{length};
 ghost use Rattle.spec_plain.specs.Limits.{side, cellCount, mostJobs};
 ghost use Rattle.base_lists.specs.All.{All};
-ghost use Rattle.part_lines.specs.Held.{jobsOf};
+ghost use Rattle.part_lines.specs.ArrayLists.{jobsOf};
 ghost use Rattle.part_lines.specs.Asked.{Sized};
 ghost use Rattle.part_boardwords.specs.Layout.{cellsAt};
 ghost use Rattle.part_boardwords.specs.Words.{wordIn, heldJobs};

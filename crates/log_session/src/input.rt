@@ -7,7 +7,7 @@ use log_text::put;
 
 // What taking a line found: a line of so many bytes, one for which there is no room, the end of the input, or
 // that the input cannot be read.
-pub enum Line {
+pub enum Found {
     Whole(usize),
     TooLong,
     End,
@@ -16,7 +16,7 @@ pub enum Line {
 
 // The line, and the bytes of the chunk that are left for the next one: those from `from` on, before `to`.
 pub struct Taken {
-    pub line: Line,
+    pub line: Found,
     pub from: usize,
     pub to: usize,
 }
@@ -43,13 +43,13 @@ pub fn take_line(fd: i32, chunk: &mut [u8], line: &mut [u8], from: usize, to: us
         }
         let n = find(&chunk[left..end], b'\n');
         if line.len() - at <= n {
-            return with_rest(Line::TooLong, end, end);
+            return with_rest(Found::TooLong, end, end);
         }
         let stop = left + n;
         put(line, at, &chunk[left..stop]);
         at = at + n;
         if stop < end {
-            return with_rest(Line::Whole(at), stop + 1, end);
+            return with_rest(Found::Whole(at), stop + 1, end);
         }
         left = end;
     }
@@ -76,16 +76,16 @@ fn refill(fd: i32, chunk: &mut [u8], from: usize, to: usize) -> Chunk
 }
 
 // What is taken where the input gives no more: the bytes after the last line end, if there are any.
-fn last_line(at: usize, failed: bool) -> Line {
+fn last_line(at: usize, failed: bool) -> Found {
     if failed {
-        return Line::Failed;
+        return Found::Failed;
     }
     if at == 0 {
-        return Line::End;
+        return Found::End;
     }
-    Line::Whole(at)
+    Found::Whole(at)
 }
 
-fn with_rest(line: Line, from: usize, to: usize) -> Taken {
+fn with_rest(line: Found, from: usize, to: usize) -> Taken {
     Taken { line, from, to }
 }

@@ -4,7 +4,7 @@
 // It may use log_calls and log_explain, and of the kit io, os and libc.
 mod input;
 
-use input::Line;
+use input::Found;
 use input::take_line;
 use libc::STDOUT_FILENO;
 use log_calls::Answer;
@@ -137,7 +137,7 @@ fn turns_left(turns: u64, goes: bool) -> u64
 
 // Answers what was found at a row.
 fn answer(
-    found: Line,
+    found: Found,
     row: u64,
     name: &[u8],
     options: Options,
@@ -148,13 +148,13 @@ fn answer(
     state: State,
 ) -> State {
     match found {
-        Line::Whole(n) => {
+        Found::Whole(n) => {
             let end = least(n, line.len());
             answer_line(row, options, &line[0..end], plant, board, out, state)
         }
-        Line::TooLong => ended(put_fault(out, state.waiting, row, Fault::LongLine), true),
-        Line::End => ended(state.waiting, false),
-        Line::Failed => ended(put_unreadable(out, state.waiting, name), true),
+        Found::TooLong => ended(put_fault(out, state.waiting, row, Fault::LongLine), true),
+        Found::End => ended(state.waiting, false),
+        Found::Failed => ended(put_unreadable(out, state.waiting, name), true),
     }
 }
 

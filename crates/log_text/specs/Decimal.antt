@@ -3,7 +3,7 @@
 --   digitAt s k     byte k of s is a digit
 --   valueTo s n     the number that the first n bytes of s spell
 --   digitsRead s    the number that the bytes of s spell, where all are digits and it fits 32 bits
---   padded s        s has a zero in front of other bytes
+--   zeroLed s       s has a zero in front of other bytes
 --   numberRead s    s as a number: neither empty nor with a zero in front
 use Prim.Native.Nat.{ℕ, zero, suc, _+_, _-_, _*_}
 use mathlib.Core.Bool.{Bool, cond, _&&_}
@@ -30,8 +30,8 @@ digitsRead s =
     (Value (valueTo s (length s)))
     Bad
 
-unfoldable pub padded : List ℕ → Bool
-padded s = ltb 1 (length s) && eqb (getD s 0 0) 48
+unfoldable pub zeroLed : List ℕ → Bool
+zeroLed s = ltb 1 (length s) && eqb (getD s 0 0) 48
 
 unfoldable pub numberRead : List ℕ → Number
-numberRead s = cond (eqb (length s) 0) Bad (cond (padded s) Bad (digitsRead s))
+numberRead s = cond (eqb (length s) 0) Bad (cond (zeroLed s) Bad (digitsRead s))

@@ -1,7 +1,7 @@
 // Decimal numbers.
 ghost use mathlib.Core.Path.{_≡_};
 ghost use Prim.Native.Nat.{_-_};
-ghost use Rattle.log_text.specs.Decimal.{digitsRead, isDigit, numberRead, padded};
+ghost use Rattle.log_text.specs.Decimal.{digitsRead, isDigit, numberRead, zeroLed};
 
 // What a word says as a number.
 pub enum Number {
@@ -25,7 +25,7 @@ pub fn read_number(s: &[u8]) -> Number
 
 // Whether a zero stands in front of other bytes.
 fn is_padded(s: &[u8]) -> bool
-    ensures { λ r. ⌜ r ≡ padded (now (s .entry)) ⌝ }
+    ensures { λ r. ⌜ r ≡ zeroLed (now (s .entry)) ⌝ }
 {
     if 1 < s.len() {
         return s[0] == b'0';

@@ -13,7 +13,7 @@ use Rattle.spec_plain.specs.declared.Job.{Job}
 use Rattle.spec_plain.specs.declared.Use.{Use}
 use Rattle.spec_plain.specs.Plain.{noUse}
 use Rattle.part_lines.specs.declared.Line.{Line}
-use Rattle.part_lines.specs.Held.{noJob, noLine}
+use Rattle.part_lines.specs.ArrayLists.{noJob, noLine}
 use Rattle.part_boardwords.specs.Board.{Board, Arrays}
 use Rattle.part_boardwords.specs.Layout.{clockAt, countAt, headSize, sentIn, jobSize, useSize, lineSize, jobsSize, linesSize}
 use Rattle.part_boardwords.specs.Layout.{jobsAt, linesAt, cellsAt, jobStart, markAt, lineStart, useStart}
@@ -21,7 +21,7 @@ use Rattle.part_boardwords.specs.Words.{wordIn, boardIn, jobAt, useAt, l
 use Rattle.part_boardwords.specs.Codec.{jobWords, useWords, lineWords, jobsWords, linesWords, cellsWords, headWords, frameWords, wordsOf}
 use Rattle.base_lists.proofs.Build.{past, build-same, build-at, build-back}
 use Rattle.part_boardwords.proofs.Blocks.{joined-at}
-use Rattle.part_boardwords.proofs.Put.{length-line, length-jobs, length-frame}
+use Rattle.part_boardwords.proofs.Overwritten.{length-line, length-jobs, length-frame}
 use Rattle.part_boardwords.proofs.Parts.{mark-small, settings-written, job-written, use-written}
 use Rattle.part_boardwords.proofs.Inverse.{marks-hold}
 

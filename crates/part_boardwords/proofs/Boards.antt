@@ -13,7 +13,7 @@ use lib.Seq.{getD-take}
 use Rattle.spec_plain.specs.declared.Job.{Job}
 use Rattle.spec_plain.specs.Plain.{noUse}
 use Rattle.part_lines.specs.declared.Line.{Line}
-use Rattle.part_lines.specs.Held.{jobsOf, lineOf, linesOf, noJob, noLine}
+use Rattle.part_lines.specs.ArrayLists.{jobsOf, lineOf, linesOf, noJob, noLine}
 use Rattle.part_lines.proofs.Lists.{length-held, held-next, held-over}
 use Rattle.base_lists.proofs.AllBelow.{allBelow-same}
 use Rattle.part_boardwords.specs.Layout.{countAt, lineSize, linesAt, cellsAt, jobStart, markAt, lineStart, useStart}

@@ -13,16 +13,16 @@ use Rattle.part_lines.specs.declared.Line.{Line}
 use Rattle.part_boardwords.specs.Board.{Board, boardWith}
 use Rattle.part_boardwords.specs.Layout.{clockAt, countAt, headSize}
 use Rattle.part_boardwords.specs.Words.{Words, wordIn, boardRead}
-use Rattle.part_boardwords.specs.Codec.{headWords, put}
+use Rattle.part_boardwords.specs.Codec.{headWords, overwritten}
 use Rattle.part_boardwords.proofs.Parts.{head-word, head-other}
-use Rattle.part_boardwords.proofs.Written.{put-is}
+use Rattle.part_boardwords.proofs.Written.{overwritten-is}
 
 pub head-set :
     (v : List ℕ) (d : Board) → headSize ≤ length v
     → ((k : ℕ) → k < headSize → (k ≡ clockAt → ⊥) → (k ≡ countAt → ⊥) → wordIn v k ≡ getD (headWords d) k 0)
-    → set (set v clockAt (d .clock)) countAt (d .jobs .count) ≡ put v 0 (headWords d)
+    → set (set v clockAt (d .clock)) countAt (d .jobs .count) ≡ overwritten v 0 (headWords d)
 head-set v d room others =
-    put-is v x 0 (headWords d) size room
+    overwritten-is v x 0 (headWords d) size room
     (λ i h. ap (λ (j : ℕ). getD x j 0) {x = 0 + i} {y = i} (omega arith) ∙ inside i h (ℕ-discrete i countAt) (ℕ-discrete i clockAt))
     (λ k h. absurd (omega arith))
     (λ k h. getD-set-other y countAt k n 0 (λ e. omega arith) ∙ getD-set-other v clockAt k (d .clock) 0 (λ e. omega arith))

@@ -15,7 +15,7 @@ use borrow.Author.Tests.{le-leb}
 use native.Mathlib.Omega.{arith}
 use Rattle.spec_plain.specs.Limits.{mostJobs, resources, mostUses, cellCount}
 use Rattle.spec_plain.specs.Plain.{noUse}
-use Rattle.part_lines.specs.Held.{noJob, noLine}
+use Rattle.part_lines.specs.ArrayLists.{noJob, noLine}
 use Rattle.base_lists.proofs.AllBelow.{allBelow-of}
 use Rattle.base_lists.specs.Loops.{build}
 use Rattle.part_boardwords.specs.Layout.{countAt, headSize, jobSize, useSize, usesIn, usesSize, lineSize, jobsSize, linesSize}

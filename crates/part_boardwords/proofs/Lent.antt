@@ -16,9 +16,9 @@ use Rattle.spec_plain.specs.Limits.{cellCount}
 use Rattle.part_boardwords.specs.Board.{Board}
 use Rattle.part_boardwords.specs.Layout.{cellsAt, boardSize}
 use Rattle.part_boardwords.specs.Words.{wordIn, cellAt, cellsRead}
-use Rattle.part_boardwords.specs.Codec.{frameWords, wordsOf, put}
+use Rattle.part_boardwords.specs.Codec.{frameWords, wordsOf, overwritten}
 use Rattle.base_lists.proofs.Build.{build-length, build-at, build-back}
-use Rattle.part_boardwords.proofs.Put.{length-frame, put-front}
+use Rattle.part_boardwords.proofs.Overwritten.{length-frame, overwritten-front}
 
 abbrev pub lentTable : List ℕ → List ℕ
 lentTable w = take (length w - cellsAt) (drop cellsAt w)
@@ -57,11 +57,11 @@ module _ (w : List ℕ) (len : length w ≡ boardSize) where
         ap (λ (l : List ℕ). getD l k 0) (with-is t)
         ∙ (List·getD-append (take cellsAt w) t 0 k (omega (arith, front)) ∙ getD-take cellsAt w k 0 h)
 
-    pub written : (b : Board) → b .gaps ≡ t → length (wordsWith w t) ≡ boardSize → put (wordsWith w t) 0 (frameWords b) ≡ wordsOf b
+    pub written : (b : Board) → b .gaps ≡ t → length (wordsWith w t) ≡ boardSize → overwritten (wordsWith w t) 0 (frameWords b) ≡ wordsOf b
     unfolding wordsOf
     written b e size =
-        ap (λ (l : List ℕ). put l 0 (frameWords b)) (with-is t)
-        ∙ (put-front (take cellsAt w) t (frameWords b) (front ∙ sym (length-frame b))
+        ap (λ (l : List ℕ). overwritten l 0 (frameWords b)) (with-is t)
+        ∙ (overwritten-front (take cellsAt w) t (frameWords b) (front ∙ sym (length-frame b))
         ∙ ap (λ (l : List ℕ). frameWords b ++ l) (sym e ∙ sym (build-back (b .gaps) cellCount 0 (ap length e ∙ cells-many size))))
 
     pub unwritten : t ≡ lentTable w → wordsWith w t ≡ w

@@ -1,6 +1,6 @@
 pub mod Filled
 pub mod Blocks
-pub mod Put
+pub mod Overwritten
 pub mod Parts
 pub mod Inverse
 pub mod Boards

@@ -17,7 +17,7 @@ use Rattle.spec_plain.specs.declared.Settings.{Settings}
 use Rattle.spec_plain.specs.declared.Job.{Job}
 use Rattle.spec_plain.specs.declared.Use.{Use}
 use Rattle.spec_plain.specs.Plain.{sentJob, noUse}
-use Rattle.part_lines.specs.Held.{noJob}
+use Rattle.part_lines.specs.ArrayLists.{noJob}
 use Rattle.part_boardwords.specs.Board.{Board}
 use Rattle.part_boardwords.specs.Layout.{horizonAt, leadAt, clockAt, countAt, headSize, batchIn, sentIn, jobSize, offsetIn, lengthIn, useSize, jobStart}
 use Rattle.part_boardwords.specs.Words.{Words, wordIn, zeros, settingsRead, jobRead, jobAt, useRead, boardRead}

@@ -16,7 +16,7 @@ use Rattle.spec_plain.specs.declared.Settings.{Settings}
 use Rattle.spec_plain.specs.Plain.{State}
 use Rattle.part_lines.specs.declared.Jobs.{Jobs}
 use Rattle.part_lines.specs.declared.Line.{Line}
-use Rattle.part_lines.specs.Held.{jobsOf, jobsFrom, linesOf, linesFrom, noLine}
+use Rattle.part_lines.specs.ArrayLists.{jobsOf, jobsFrom, linesOf, linesFrom, noLine}
 
 pub record Board : Type 0 where
   pub settings : Settings

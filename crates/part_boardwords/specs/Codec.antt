@@ -5,7 +5,7 @@
 --   headWords b    settings, clock and job count
 --   jobsWords, usesWords, linesWords, cellsWords   of all of them
 --   joined f n     f 0, .., f (n - 1), one behind the other
---   put w at l     the list w with the elements of l written over it, from place `at` on
+--   overwritten w at l  the list w with the elements of l written over it, from place `at` on
 -- That reading and writing are inverse is proved in proofs/Inverse and proofs/Back.
 use Prim.Native.Nat.{ℕ, zero, suc}
 use mathlib.Core.Bool.{Bool, cond}
@@ -17,7 +17,7 @@ use Rattle.spec_plain.specs.declared.Job.{Job}
 use Rattle.spec_plain.specs.declared.Use.{Use}
 use Rattle.spec_plain.specs.Plain.{noUse}
 use Rattle.part_lines.specs.declared.Line.{Line}
-use Rattle.part_lines.specs.Held.{noJob, noLine}
+use Rattle.part_lines.specs.ArrayLists.{noJob, noLine}
 use Rattle.part_boardwords.specs.Board.{Board}
 use Rattle.base_lists.specs.Loops.{build}
 
@@ -61,6 +61,6 @@ frameWords b = headWords b ++ (jobsWords (b .jobs .jobs) ++ linesWords (b .lines
 unfoldable pub wordsOf : Board → List ℕ
 wordsOf b = frameWords b ++ cellsWords (b .gaps)
 
-unfoldable pub put : List ℕ → ℕ → List ℕ → List ℕ
-put w at [] = w
-put w at (x ∷ l) = put (set w at x) (suc at) l
+unfoldable pub overwritten : List ℕ → ℕ → List ℕ → List ℕ
+overwritten w at [] = w
+overwritten w at (x ∷ l) = overwritten (set w at x) (suc at) l

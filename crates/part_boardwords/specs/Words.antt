@@ -26,7 +26,7 @@ use Rattle.spec_plain.specs.declared.Job.{Job}
 use Rattle.spec_plain.specs.declared.Use.{Use}
 use Rattle.part_lines.specs.declared.Jobs.{Jobs}
 use Rattle.part_lines.specs.declared.Line.{Line}
-use Rattle.part_lines.specs.Held.{linesOf}
+use Rattle.part_lines.specs.ArrayLists.{linesOf}
 use Rattle.base_lists.specs.Loops.{build, allBelow}
 use Rattle.part_boardwords.specs.Board.{Board}
 use Rattle.part_boardwords.specs.Layout.{horizonAt, leadAt, clockAt, countAt, batchIn, sentIn, offsetIn, lengthIn, jobSize, useSize}

@@ -9,12 +9,12 @@ ghost use lib.ListN.{length, set};
 ghost use Rattle.base_lists.specs.Loops.{rewritten};
 ghost use Rattle.spec_plain.specs.Limits.{mostJobs, mostUses};
 ghost use Rattle.part_boardwords.specs.Layout.{linesAt, cellsAt, jobStart, markAt, lineEnd, useStart};
-ghost use Rattle.part_boardwords.specs.Codec.{markOf, jobWords, useWords, put};
+ghost use Rattle.part_boardwords.specs.Codec.{markOf, jobWords, useWords, overwritten};
 
 // Three words, from `at` on.
-fn put_three(w: &mut [u32], at: usize, a: u32, b: u32, c: u32)
+fn write_three(w: &mut [u32], at: usize, a: u32, b: u32, c: u32)
     requires { ⌜ at + 3 ≤ length (now w) ⌝ }
-    ensures { λ _. ⌜ now (w .exit) ≡ put (now (w .entry)) at (a ∷ b ∷ c ∷ []) ⌝ }
+    ensures { λ _. ⌜ now (w .exit) ≡ overwritten (now (w .entry)) at (a ∷ b ∷ c ∷ []) ⌝ }
 {
     w[at] = a;
     w[at + 1] = b;
@@ -43,16 +43,16 @@ fn mark(sent: bool) -> u32
 }
 
 // Job k.
-pub fn put_job(w: &mut [u32], k: usize, job: Job)
+pub fn write_job(w: &mut [u32], k: usize, job: Job)
     requires { ⌜ (cellsAt ≤ length (now w)) × (k < mostJobs) ⌝ }
-    ensures { λ _. ⌜ now (w .exit) ≡ put (now (w .entry)) (jobStart k) (jobWords job) ⌝ }
+    ensures { λ _. ⌜ now (w .exit) ≡ overwritten (now (w .entry)) (jobStart k) (jobWords job) ⌝ }
 {
     let at = layout::JOBS_AT + layout::JOB_SIZE * k;
-    put_three(w, at, job.points, job.batch, mark(job.sent));
+    write_three(w, at, job.points, job.batch, mark(job.sent));
 }
 
 // Job k marked as sent.
-pub fn put_sent(w: &mut [u32], k: usize)
+pub fn write_sent(w: &mut [u32], k: usize)
     requires { ⌜ (cellsAt ≤ length (now w)) × (k < mostJobs) ⌝ }
     ensures { λ _. ⌜ now (w .exit) ≡ set (now (w .entry)) (markAt k) 1 ⌝ }
 {
@@ -71,12 +71,12 @@ pub fn clear_jobs(w: &mut [u32], n: usize)
 // ---- uses
 
 // Use k of the line that begins at word `at`.
-pub fn put_use(w: &mut [u32], at: usize, k: usize, u: Use)
+pub fn write_use(w: &mut [u32], at: usize, k: usize, u: Use)
     requires { ⌜ (lineEnd at ≤ length (now w)) × (k < mostUses) ⌝ }
-    ensures { λ _. ⌜ now (w .exit) ≡ put (now (w .entry)) (useStart at k) (useWords u) ⌝ }
+    ensures { λ _. ⌜ now (w .exit) ≡ overwritten (now (w .entry)) (useStart at k) (useWords u) ⌝ }
 {
     let from = at + layout::USES_IN + layout::USE_SIZE * k;
-    put_three(w, from, u.point, u.offset, u.length);
+    write_three(w, from, u.point, u.offset, u.length);
 }
 
 // 0 in the places of the uses from number n on of the line that begins at word `at`.

@@ -15,13 +15,13 @@ use Rattle.base_rulings.specs.Answer.{cause, plain}
 use Rattle.base_rulings.specs.declared.Cause.{Cause}
 use Rattle.base_rulings.specs.declared.Ruling.{Ruling}
 use Rattle.base_rulings.specs.declared.Ruling.the-variants.{Accepted, Refused}
-use Rattle.spec_plain.specs.Limits.{mostUses, mostSteps, mostPuts}
-use Rattle.spec_plain.specs.Plain.{State, Offer, Placed, Draft, liveCount, notBefore, durations, inserted, ruleBefore, ruleAfter, usedFrom, placed, withJobs, withLines, trayGap, batchRules, full, pointsOf, jobFrom, joining, drafted}
-use Rattle.part_lines.specs.Held.{rulesOf, rulesFrom, answered}
+use Rattle.spec_plain.specs.Limits.{mostUses, mostSteps, mostAllocations}
+use Rattle.spec_plain.specs.Plain.{State, Offer, Placed, Draft, liveCount, notBefore, durations, inserted, ruleBefore, ruleAfter, usedFrom, placed, withJobs, withLines, trayGap, batchRules, full, newPoints, jobFrom, joining, drafted}
+use Rattle.part_lines.specs.ArrayLists.{rulesOf, rulesFrom, answered}
 use Rattle.part_lines.specs.Asked.{Room}
 use Rattle.spec_plain.specs.declared.Settings.{Settings}
 use Rattle.spec_plain.specs.declared.Use.{Use}
-use Rattle.spec_plain.specs.declared.Put.{Put}
+use Rattle.spec_plain.specs.declared.Allocation.{Allocation}
 use Rattle.spec_plain.specs.declared.Step.{Step}
 use Rattle.spec_plain.specs.declared.Rule.{Rule}
 use Rattle.part_lines.specs.declared.rulelist.Rules.{Rules}
@@ -36,7 +36,7 @@ prefixed before (Placed.stop c) = Placed.stop c
 prefixed before (Placed.done ls rs) = Placed.done ls (before ++ rs)
 
 placed-behind :
-    (s : Settings) (x i : ℕ) (ps : List Put) (ls : List (List Use)) (before rs : List Rule)
+    (s : Settings) (x i : ℕ) (ps : List Allocation) (ls : List (List Use)) (before rs : List Rule)
     → placed s x i ps ls (before ++ rs) ≡ prefixed before (placed s x i ps ls rs)
 unfolding placed
 placed-behind s x i [] ls before rs = refl
@@ -56,7 +56,7 @@ placed-behind s x i (p ∷ ps) ls before rs =
     by false false a b e = e
 
 from-start :
-    (s : Settings) (x : ℕ) (ps : List Put) (ls : List (List Use)) (before : List Rule)
+    (s : Settings) (x : ℕ) (ps : List Allocation) (ls : List (List Use)) (before : List Rule)
     → placed s x 0 ps ls before ≡ prefixed before (placed s x 0 ps ls [])
 from-start s x ps ls before = ap (placed s x 0 ps ls) (sym (append-nil before)) ∙ placed-behind s x 0 ps ls before []
 
@@ -69,14 +69,14 @@ length-durations x (s ∷ ss) = omega (arith, length-durations (suc x) ss)
 
 pub drafted-full : (s : State) (o : Offer) (n : ℕ) → n ≡ length (o .steps) → full s (n + 1) ≡ true → drafted s o ≡ Draft.stop (plain 14)
 unfolding drafted
-drafted-full s o n size e = let points : pointsOf o ≡ n + 1 = omega arith in rw (points, e)
+drafted-full s o n size e = let points : newPoints o ≡ n + 1 = omega arith in rw (points, e)
 
 -- the job joins, where placing came to q, and so came to ls and rs when it started with the rules (b) and (c)
 abbrev joined : State → Offer → List (List Use) → List Rule → Draft
 joined s o ls rs =
     Draft.go
     (withLines (withJobs s (s .jobs ++ (jobFrom o ∷ []))) ls)
-    (pointsOf o)
+    (newPoints o)
     (rs ++ batchRules (trayGap (s .settings)) (o .batch) (liveCount s + length (o .steps)) (s .jobs))
 
 abbrev begun : State → Offer → ℕ → List Rule
@@ -103,8 +103,8 @@ begun-few : (x p : ℕ) (ss : List Step) → length ss ≤ 8 → length (notBefo
 begun-few x p ss h = omega (arith, length-durations x ss)
 
 module _ (x p : ℕ) (ss : List Step) (b : Rules) (few : length ss ≤ 8) (is : b ≡ rulesFrom (notBefore x p ∷ durations x ss)) where
-  pub start-room : Room (2 * mostPuts + 1) b
-  start-room = Room-of b (notBefore x p ∷ durations x ss) (2 * mostPuts + 1) is (omega (arith, begun-few x p ss few))
+  pub start-room : Room (2 * mostAllocations + 1) b
+  start-room = Room-of b (notBefore x p ∷ durations x ss) (2 * mostAllocations + 1) is (omega (arith, begun-few x p ss few))
 
   start-list : rulesOf b ≡ notBefore x p ∷ durations x ss
   start-list = rules-back b (notBefore x p ∷ durations x ss) is (omega (arith, begun-few x p ss few))
@@ -112,31 +112,31 @@ module _ (x p : ℕ) (ss : List Step) (b : Rules) (few : length ss ≤ 8) (is : 
 module _
     (s : State) (o : Offer) (x n : ℕ) (first : x ≡ liveCount s) (size : n ≡ length (o .steps)) (not-full : full s (n + 1) ≡ false)
     (few : length (o .steps) ≤ mostSteps) (b : Rules) (is : b ≡ rulesFrom (begun s o x)) (ruling : Ruling) (ls : List (List Use)) (made : Rules)
-    (answer : answered ruling ls (rulesOf made) ≡ placed (s .settings) x 0 (o .puts) (s .lines) (rulesOf b)) where
-  past-full : drafted s o ≡ joining s o (placed (s .settings) (liveCount s) 0 (o .puts) (s .lines) [])
+    (answer : answered ruling ls (rulesOf made) ≡ placed (s .settings) x 0 (o .allocations) (s .lines) (rulesOf b)) where
+  past-full : drafted s o ≡ joining s o (placed (s .settings) (liveCount s) 0 (o .allocations) (s .lines) [])
   unfolding drafted
-  past-full = let points : pointsOf o ≡ n + 1 = omega arith in rw (points, not-full)
+  past-full = let points : newPoints o ≡ n + 1 = omega arith in rw (points, not-full)
 
   came-to :
       (y : Ruling) → ruling ≡ y
-      → answered y ls (rulesOf made) ≡ prefixed (begun s o (liveCount s)) (placed (s .settings) (liveCount s) 0 (o .puts) (s .lines) [])
+      → answered y ls (rulesOf made) ≡ prefixed (begun s o (liveCount s)) (placed (s .settings) (liveCount s) 0 (o .allocations) (s .lines) [])
   came-to y e =
       sym (ap (λ (z : Ruling). answered z ls (rulesOf made)) e)
       ∙ answer
-      ∙ ap (placed (s .settings) x 0 (o .puts) (s .lines)) (start-list x (s .clock + s .settings .lead) (o .steps) b few is)
-      ∙ ap (λ (i : ℕ). placed (s .settings) i 0 (o .puts) (s .lines) (begun s o i)) first
-      ∙ from-start (s .settings) (liveCount s) (o .puts) (s .lines) (begun s o (liveCount s))
+      ∙ ap (placed (s .settings) x 0 (o .allocations) (s .lines)) (start-list x (s .clock + s .settings .lead) (o .steps) b few is)
+      ∙ ap (λ (i : ℕ). placed (s .settings) i 0 (o .allocations) (s .lines) (begun s o i)) first
+      ∙ from-start (s .settings) (liveCount s) (o .allocations) (s .lines) (begun s o (liveCount s))
 
   pub drafted-stop : (c : Cause) → ruling ≡ Refused c → drafted s o ≡ Draft.stop c
   unfolding answered
   drafted-stop c e =
-      past-full ∙ joining-stop s o (begun s o (liveCount s)) (placed (s .settings) (liveCount s) 0 (o .puts) (s .lines) []) c (came-to (Refused c) e)
+      past-full ∙ joining-stop s o (begun s o (liveCount s)) (placed (s .settings) (liveCount s) 0 (o .allocations) (s .lines) []) c (came-to (Refused c) e)
 
   drafted-go : ruling ≡ Accepted → drafted s o ≡ joined s o ls (rulesOf made)
   unfolding answered
   drafted-go e =
       past-full
-      ∙ joining-go s o (placed (s .settings) (liveCount s) 0 (o .puts) (s .lines) []) ls (rulesOf made) (came-to Accepted e)
+      ∙ joining-go s o (placed (s .settings) (liveCount s) 0 (o .allocations) (s .lines) []) ls (rulesOf made) (came-to Accepted e)
 
   -- the parts of the answer are those of the plain machine
   pub drafted-made :

@@ -15,25 +15,25 @@ use Rattle.base_rulings.specs.Answer.{cause}
 use Rattle.base_rulings.specs.declared.Cause.{Cause}
 use Rattle.base_rulings.specs.declared.Ruling.{Ruling}
 use Rattle.base_rulings.specs.declared.Ruling.the-variants.{Accepted, Refused}
-use Rattle.spec_plain.specs.Limits.{mostUses, mostPuts}
+use Rattle.spec_plain.specs.Limits.{mostUses, mostAllocations}
 use Rattle.spec_plain.specs.Plain.{inserted, ruleBefore, ruleAfter, usedFrom, Placed, placed}
 use Rattle.spec_plain.specs.declared.Settings.{Settings}
 use Rattle.spec_plain.specs.declared.Use.{Use}
-use Rattle.spec_plain.specs.declared.Put.{Put}
+use Rattle.spec_plain.specs.declared.Allocation.{Allocation}
 use Rattle.spec_plain.specs.declared.Rule.{Rule}
 use Rattle.part_lines.specs.declared.rulelist.Maybe.{Maybe}
 use Rattle.part_lines.specs.declared.rulelist.Rules.{Rules}
-use Rattle.part_lines.specs.Held.{rulesOf, maybeFrom, answered}
+use Rattle.part_lines.specs.ArrayLists.{rulesOf, maybeFrom, answered}
 use Rattle.part_lines.specs.Asked.{Room}
 use Rattle.part_lines.specs.Placing.{lineFor, linesWith, AllFit}
 use Rattle.part_lines.proofs.Placing.{placed-done}
 use Rattle.part_lines.proofs.RuleLaws.{Room-less, added, stored, before-few, after-few}
-use Rattle.part_drafts.specs.Turned.{Reached, answerOf, storing, Outcome, Turned}
-use Rattle.part_drafts.specs.declared.placing.Turn.{Turn}
+use Rattle.part_drafts.specs.PlacedAs.{Reached, answerOf, storing, Outcome, PlacedAs}
+use Rattle.part_drafts.specs.declared.placing.Placement.{Placement}
 
 -- ---- the plain machine's first step
 
-module _ (s : Settings) (x i : ℕ) (p : Put) (ps : List Put) (ls : List (List Use)) (rs : List Rule) (l : List Use) (e : getD ls (p .resource) [] ≡ l) where
+module _ (s : Settings) (x i : ℕ) (p : Allocation) (ps : List Allocation) (ls : List (List Use)) (rs : List Rule) (l : List Use) (e : getD ls (p .resource) [] ≡ l) where
   pub placed-far : length l < p .place → placed s x i (p ∷ ps) ls rs ≡ Placed.stop (cause 15 i)
   unfolding placed
   placed-far h = rw (e, lt-ltb (length l) (p .place) h)
@@ -63,10 +63,10 @@ both-stored {q = q} n b a bs cs room eb fb ea fa =
     let second = added (first .0) (storing (storing q b) a) cs 1 n two fa (omega arith) in
     (second .0, second .1 ∙ ap (λ (rs : List Rule). rs ++ cs) (first .1) ∙ append-assoc (rulesOf q) bs cs)
 
-module _ (s : Settings) (x i : ℕ) (p : Put) (ls : List (List Use)) where
+module _ (s : Settings) (x i : ℕ) (p : Allocation) (ls : List (List Use)) where
   pub turn-stops :
-      (t : Turn) (c : Cause) → (t .ruling ≡ Refused c) × (t .before ≡ maybeFrom []) × (t .after ≡ maybeFrom [])
-      → ((rs : List Rule) → placed s x i (p ∷ []) ls rs ≡ Placed.stop c) → Turned s x i p ls t
+      (t : Placement) (c : Cause) → (t .ruling ≡ Refused c) × (t .before ≡ maybeFrom []) × (t .after ≡ maybeFrom [])
+      → ((rs : List Rule) → placed s x i (p ∷ []) ls rs ≡ Placed.stop c) → PlacedAs s x i p ls t
   unfolding answered
   turn-stops t c is e = (
     omega (arith, ap (λ (m : Maybe). m .count) (is .1)),
@@ -86,7 +86,7 @@ module _ (s : Settings) (x i : ℕ) (p : Put) (ls : List (List Use)) where
 
   pub turn-goes :
       (b a : Maybe) → p .place ≤ length (lineFor ls p) → length (lineFor ls p) < mostUses → b ≡ maybeFrom before → a ≡ maybeFrom after
-      → Turned s x i p ls (record { ruling = Accepted; before = b; after = a })
+      → PlacedAs s x i p ls (record { ruling = Accepted; before = b; after = a })
   unfolding answered placed
   turn-goes b a fits room eb ea =
       let few-before = before-few s (lineFor ls p) (p .place) (usedFrom x p) in
@@ -107,7 +107,7 @@ andThen (Placed.stop c) next = Placed.stop c
 andThen (Placed.done ls rs) next = next ls rs
 
 placed-then :
-    (s : Settings) (x i : ℕ) (p : Put) (ps : List Put) (ls : List (List Use)) (rs : List Rule)
+    (s : Settings) (x i : ℕ) (p : Allocation) (ps : List Allocation) (ls : List (List Use)) (rs : List Rule)
     → placed s x i (p ∷ ps) ls rs ≡ andThen (placed s x i (p ∷ []) ls rs) (placed s x (suc i) ps)
 unfolding placed
 placed-then s x i p ps ls rs =
@@ -124,23 +124,23 @@ placed-then s x i p ps ls rs =
     by false false new more = refl
 
 -- how placing stands after k allocations of ps
-pub record Going (s : Settings) (x : ℕ) (ps : List Put) (start now : Reached) (k : ℕ) : Type 0 where
+pub record Going (s : Settings) (x : ℕ) (ps : List Allocation) (start now : Reached) (k : ℕ) : Type 0 where
   -- none was stopped
   pub accepted : now .ruling ≡ Accepted
   -- the whole run is the rest of the run, from here
   pub runs :
       placed s x 0 ps (start .lines) (rulesOf (start .rules)) ≡ placed s x k (drop k ps) (now .lines) (rulesOf (now .rules))
   -- two rules for each that is left, and one more for rule (e)
-  pub room : Room (2 * mostPuts + 1 - (k + k)) (now .rules)
+  pub room : Room (2 * mostAllocations + 1 - (k + k)) (now .rules)
 
 module _
-    {s : Settings} {x k : ℕ} {ps : List Put} {start now : Reached} (G : Going s x ps start now k) (p : Put) (r : Reached) (next : drop k ps ≡ p ∷ drop (k + 1) ps)
+    {s : Settings} {x k : ℕ} {ps : List Allocation} {start now : Reached} (G : Going s x ps start now k) (p : Allocation) (r : Reached) (next : drop k ps ≡ p ∷ drop (k + 1) ps)
     (out : Outcome (now .rules) r (placed s x k (p ∷ []) (now .lines) (rulesOf (now .rules)))) where
   runs-on :
       placed s x 0 ps (start .lines) (rulesOf (start .rules)) ≡ andThen (answerOf r) (placed s x (suc k) (drop (k + 1) ps))
   runs-on =
       G .runs
-      ∙ ap (λ (qs : List Put). placed s x k qs (now .lines) (rulesOf (now .rules))) next
+      ∙ ap (λ (qs : List Allocation). placed s x k qs (now .lines) (rulesOf (now .rules))) next
       ∙ placed-then s x k p (drop (k + 1) ps) (now .lines) (rulesOf (now .rules))
       ∙ ap (λ (q : Placed). andThen q (placed s x (suc k) (drop (k + 1) ps))) (sym (out .0))
 
@@ -160,7 +160,7 @@ module _
             ∙ ap (λ (q : Placed). andThen q (placed s x (suc k) (drop (k + 1) ps))) (answer-by Accepted e)
             ∙ ap (λ (i : ℕ). placed s x i (drop (k + 1) ps) (r .lines) (rulesOf (r .rules))) (sym (add-one k))
             ∙ ap (λ (l : List (List Use)). placed s x (k + 1) (drop (k + 1) ps) l (rulesOf (r .rules))) same;
-        room = out .1 (2 * mostPuts + 1 - (k + 1 + (k + 1))) (Room-less (G .room) (2 + (2 * mostPuts + 1 - (k + 1 + (k + 1)))) (omega arith));
+        room = out .1 (2 * mostAllocations + 1 - (k + 1 + (k + 1))) (Room-less (G .room) (2 + (2 * mostAllocations + 1 - (k + 1 + (k + 1)))) (omega arith));
       }
 
   pub stops-here : (c : Cause) → r .ruling ≡ Refused c → placed s x 0 ps (start .lines) (rulesOf (start .rules)) ≡ Placed.stop c
@@ -174,9 +174,9 @@ module _
       (fits .0, fits .1)
 
 pub all-placed :
-    {s : Settings} {x k : ℕ} {ps : List Put} {start now : Reached} → Going s x ps start now k → drop k ps ≡ []
+    {s : Settings} {x k : ℕ} {ps : List Allocation} {start now : Reached} → Going s x ps start now k → drop k ps ≡ []
     → answerOf now ≡ placed s x 0 ps (start .lines) (rulesOf (start .rules))
 unfolding answered placed
 all-placed {s = s} {x = x} {k = k} {now = now} G e =
     ap (λ (z : Ruling). answered z (now .lines) (rulesOf (now .rules))) (G .accepted)
-    ∙ sym (G .runs ∙ ap (λ (qs : List Put). placed s x k qs (now .lines) (rulesOf (now .rules))) e)
+    ∙ sym (G .runs ∙ ap (λ (qs : List Allocation). placed s x k qs (now .lines) (rulesOf (now .rules))) e)

@@ -3,7 +3,7 @@
 use mathlib.Core.Path.{_≡_}
 use Rattle.base_rulings.specs.declared.Ruling.the-variants.{Accepted, Refused}
 use Rattle.spec_plain.specs.Plain.{Draft}
-use Rattle.part_lines.specs.Held.{rulesFrom}
+use Rattle.part_lines.specs.ArrayLists.{rulesFrom}
 use Rattle.part_drafts.specs.declared.drafting.Drafted.{Drafted}
 
 unfoldable pub DraftedAs : Drafted → Draft → Type 0

@@ -1,3 +1,3 @@
 pub mod Moment
-pub mod Turned
+pub mod PlacedAs
 pub mod DraftedAs

@@ -5,9 +5,9 @@ ghost use Prim.Native.Nat.{_≤_};
 ghost use lib.ListN.{length};
 ghost use Rattle.spec_plain.specs.Limits.{mostPoints, mostSteps};
 ghost use Rattle.spec_plain.specs.Plain.{withSettings, total, notBefore, durations, drafted};
-ghost use Rattle.part_lines.specs.Held.{jobsOf, stepsOf, rulesFrom, heldOffer};
-ghost use Rattle.part_putwords.specs.Puts.{putsIn};
-ghost use Rattle.part_putwords.specs.ReadPuts.{ReadPuts};
+ghost use Rattle.part_lines.specs.ArrayLists.{jobsOf, stepsOf, rulesFrom, heldOffer};
+ghost use Rattle.part_allocations.specs.Allocations.{allocationsIn};
+ghost use Rattle.part_allocations.specs.ReadAllocations.{ReadAllocations};
 ghost use Rattle.part_lines.specs.Asked.{Sized, Lined};
 ghost use Rattle.part_boardwords.specs.Layout.{clockAt, cellsAt};
 ghost use Rattle.part_boardwords.specs.Board.{stateOf};
@@ -59,13 +59,13 @@ pub fn draft(
     n: u32,
     batch: u32,
     steps: Steps,
-    puts: &[u32],
+    allocations: &[u32],
     many: usize,
 ) -> Drafted
     requires { ⌜ cellsAt ≤ length (now w) ⌝ }
     requires { ⌜ Sized (heldJobs (wordIn (now w))) × (n ≡ total (jobsOf (heldJobs (wordIn (now w))))) × (wordIn (now w) clockAt ≤ 100000000) × (settings .lead ≤ 1000000) ⌝ }
-    requires { ⌜ Lined (linesRead (wordIn (now w))) × (steps .count ≤ mostSteps) × ReadPuts (now puts) many ⌝ }
-    ensures { λ r. ⌜ DraftedAs r (drafted (withSettings (stateOf (boardIn (now (w .entry)))) settings) (heldOffer batch steps (putsIn (now (puts .entry)) many))) ⌝ }
+    requires { ⌜ Lined (linesRead (wordIn (now w))) × (steps .count ≤ mostSteps) × ReadAllocations (now allocations) many ⌝ }
+    ensures { λ r. ⌜ DraftedAs r (drafted (withSettings (stateOf (boardIn (now (w .entry)))) settings) (heldOffer batch steps (allocationsIn (now (allocations .entry)) many))) ⌝ }
 {
     let count = steps.count as u32;
     if is_full(w, n, count + 1) {
@@ -73,7 +73,7 @@ pub fn draft(
     }
     let first = n + 1;
     let begun = begin_rules(first, w[layout::CLOCK_AT] + settings.lead, steps);
-    let placing = place_all(w, settings, first, puts, many, begun);
+    let placing = place_all(w, settings, first, allocations, many, begun);
     let ruling = placing.ruling;
     if let Ruling::Refused(cause) = ruling {
         return refused(cause);

@@ -20,7 +20,7 @@ use Rattle.base_lists.proofs.Rewritten.{rewritten-length, rewritten-in, rewritt
 use Rattle.base_lists.specs.Loops.{rewritten}
 use Rattle.spec_stn.proofs.Add.{add-closed}
 use Rattle.spec_stn.proofs.Agree.{agree-closed}
-use Rattle.spec_stn.specs.Table.{bias, Table, Closed, Agrees, Agree, add}
+use Rattle.spec_stn.specs.Table.{bias, Table, Closed, IsConsistent, Agree, add}
 use Rattle.part_gaps.specs.Cells.{cell, tableOf, rowAt, addedCell, relaxed, added, Usable, Whole}
 use Rattle.part_gaps.proofs.Overlaid.{row-next, overlaid-length, overlaid-agree, overlaid-rest, overlaid-past, overlaid-self, overlaid-same}
 
@@ -103,7 +103,7 @@ module _ (l : List ℕ) (n : ℕ) (r : Rule) (size : length l ≡ cellCount) (fe
   unfolding added
   added-past = overlaid-past n (add r (tableOf l)) l size few
 
-  pub added-closed : Closed n (tableOf l) → r .early < n → r .late < n → Agrees r (tableOf l) → Closed n (tableOf (added l n r))
+  pub added-closed : Closed n (tableOf l) → r .early < n → r .late < n → IsConsistent r (tableOf l) → Closed n (tableOf (added l n r))
   added-closed cl x y ok =
       agree-closed n (add r (tableOf l)) (tableOf (added l n r)) (λ i j hi hj. sym (added-agree i j hi hj)) (omega arith)
       (add-closed n (tableOf l) r cl x y ok)
@@ -132,7 +132,7 @@ relaxed-same l row a n early via cut size few ha behind known =
         omega (arith, behind b (omega arith), here)
 
 -- from early to late by b and a is at least the gap of the two, which the rule agrees with, and from b to a is no more than the bias twice
-pub agrees-whole : (n : ℕ) (c : Table) (r : Rule) → Closed n c → r .early < n → r .late < n → Agrees r c → Whole n r c
-unfolding Agrees
+pub agrees-whole : (n : ℕ) (c : Table) (r : Rule) → Closed n c → r .early < n → r .late < n → IsConsistent r c → Whole n r c
+unfolding IsConsistent
 agrees-whole n c r cl x y ok a b ha hb =
     omega (arith, cl .triangle (r .early) b (r .late) x hb y, cl .triangle b a (r .late) hb ha y, cl .bounded b a hb ha)

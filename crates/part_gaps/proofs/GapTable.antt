@@ -11,7 +11,7 @@ use Rattle.spec_plain.specs.Limits.{side, cellCount}
 use Rattle.spec_plain.specs.declared.Rule.{Rule}
 use Rattle.spec_stn.proofs.Agree.{agree-closed}
 use Rattle.spec_stn.proofs.Grow.{growAll-closed, growAll-roof}
-use Rattle.spec_stn.specs.Table.{bias, Closed, Agrees, add}
+use Rattle.spec_stn.specs.Table.{bias, Closed, IsConsistent, add}
 use Rattle.part_gaps.specs.Cells.{cell, tableOf, added, grown, Bounded}
 use Rattle.part_gaps.specs.GapTable.{GapTable}
 use Rattle.part_gaps.proofs.Added.{added-agree, added-rest, added-closed}
@@ -29,7 +29,7 @@ bounded-follows l n H some h triangle floor roof i j hi hj = omega (arith, trian
 -- ---- what leaves a good table
 
 pub added-gapTable :
-    (l : List ℕ) (n H : ℕ) (r : Rule) → length l ≡ cellCount → n ≤ side → GapTable l n H → r .early < n → r .late < n → Agrees r (tableOf l)
+    (l : List ℕ) (n H : ℕ) (r : Rule) → length l ≡ cellCount → n ≤ side → GapTable l n H → r .early < n → r .late < n → IsConsistent r (tableOf l)
     → GapTable (added l n r) n H
 unfolding add
 added-gapTable l n H r size few g x y ok =

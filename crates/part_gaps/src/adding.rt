@@ -7,7 +7,7 @@ ghost use Prim.Native.Nat.{ℕ, _+_, _*_, _≤_, _<_, min};
 ghost use lib.ListN.{length, getD};
 ghost use Rattle.spec_plain.specs.Limits.{side, cellCount};
 ghost use Rattle.base_lists.specs.Loops.{rewritten};
-ghost use Rattle.spec_stn.specs.Table.{bias, agrees, implies, Closed};
+ghost use Rattle.spec_stn.specs.Table.{bias, isConsistent, entails, Closed};
 ghost use Rattle.part_gaps.specs.Cells.{cell, tableOf, rowAt, relaxed, added, Usable, Whole};
 
 // A number of a rule as an index.
@@ -27,20 +27,20 @@ fn least(a: u32, b: u32) -> u32
 }
 
 // Whether some timetable of a closed table keeps the rule.
-pub fn agrees(t: &[u32], r: Rule) -> bool
+pub fn is_consistent(t: &[u32], r: Rule) -> bool
     requires { ⌜ (length (now t) ≡ cellCount) × Usable side r ⌝ }
     requires { ⌜ cell (now t) (r .early) (r .late) ≤ bias + bias ⌝ }
-    ensures { λ b. ⌜ b ≡ agrees r (tableOf (now (t .entry))) ⌝ }
+    ensures { λ b. ⌜ b ≡ isConsistent r (tableOf (now (t .entry))) ⌝ }
 {
     let at = wide(r.early) * limits::SIDE + wide(r.late);
     BIAS + r.more <= r.slack + t[at]
 }
 
 // Whether every timetable of a closed table keeps the rule.
-pub fn implies(t: &[u32], r: Rule) -> bool
+pub fn entails(t: &[u32], r: Rule) -> bool
     requires { ⌜ (length (now t) ≡ cellCount) × Usable side r ⌝ }
     requires { ⌜ cell (now t) (r .late) (r .early) ≤ bias + bias ⌝ }
-    ensures { λ b. ⌜ b ≡ implies (tableOf (now (t .entry))) r ⌝ }
+    ensures { λ b. ⌜ b ≡ entails (tableOf (now (t .entry))) r ⌝ }
 {
     let at = wide(r.late) * limits::SIDE + wide(r.early);
     t[at] + r.more <= BIAS + r.slack

@@ -13,19 +13,19 @@ use native.Mathlib.Numerals.{add-one}
 use native.Mathlib.Omega.{arith}
 use Rattle.spec_plain.specs.Limits.{mostJobs}
 use Rattle.spec_plain.specs.declared.Job.{Job}
-use Rattle.spec_plain.specs.Plain.{sentJob, marked}
-use Rattle.part_lines.specs.Held.{noJob, jobsOf, jobsFrom}
+use Rattle.spec_plain.specs.Plain.{sentJob, sentUpTo}
+use Rattle.part_lines.specs.ArrayLists.{noJob, jobsOf, jobsFrom}
 use Rattle.part_lines.proofs.JobLaws.{length-marked}
 use Rattle.base_lists.specs.Loops.{rewritten}
 use Rattle.base_lists.proofs.Build.{past}
 use Rattle.base_lists.proofs.Rewritten.{rewritten-length, rewritten-in, rewritten-below, rewritten-from}
 use Rattle.part_boardwords.specs.Layout.{clockAt, countAt, headSize, sentIn, jobSize, jobsAt, linesAt, jobStart, markAt}
 use Rattle.part_boardwords.specs.Words.{wordIn, downByJob, jobAt, heldJobs, allMarked}
-use Rattle.part_boardwords.specs.Codec.{jobWords, put}
-use Rattle.part_boardwords.proofs.Put.{put-length, put-below, put-from}
+use Rattle.part_boardwords.specs.Codec.{jobWords, overwritten}
+use Rattle.part_boardwords.proofs.Overwritten.{overwritten-length, overwritten-below, overwritten-from}
 use Rattle.part_boardwords.proofs.Parts.{mark-small, job-by, job-same, job-written, job-sent}
 use Rattle.part_boardwords.proofs.Boards.{held-jobs}
-use Rattle.part_boardwords.proofs.Written.{put-at}
+use Rattle.part_boardwords.proofs.Written.{overwritten-at}
 use Rattle.part_jobwords.specs.Fronted.{fronted}
 use Rattle.part_jobwords.specs.Listed.{Listed}
 use Rattle.part_jobwords.proofs.Fronts.{listed-front, listed-own}
@@ -34,7 +34,7 @@ use Rattle.part_jobwords.proofs.Fronts.{listed-front, listed-own}
 
 -- the words v are y with the job j behind the n jobs js, and then the count was stored
 module _ (w y v : List ℕ) (c n : ℕ) (js : List Job) (j : Job) (room : linesAt ≤ length w) (many : n ≡ length js) (less : n < 16)
-    (t : Listed w y c js) (is : v ≡ put y (jobStart n) (jobWords j)) where
+    (t : Listed w y c js) (is : v ≡ overwritten y (jobStart n) (jobWords j)) where
   abbrev grown : List ℕ
   grown = set v countAt (n + 1)
 
@@ -42,17 +42,17 @@ module _ (w y v : List ℕ) (c n : ℕ) (js : List Job) (j : Job) (room : linesA
   total = omega (arith, length-append js (j ∷ []))
 
   size-is : length v ≡ length w
-  size-is = ap length is ∙ put-length y (jobStart n) (jobWords j) ∙ t .size
+  size-is = ap length is ∙ overwritten-length y (jobStart n) (jobWords j) ∙ t .size
 
   stays : (k : ℕ) → k < jobStart n → (k ≡ countAt → ⊥) → wordIn grown k ≡ wordIn y k
   stays k h e =
-      getD-set-other v countAt k (n + 1) 0 e ∙ ap (λ (l : List ℕ). getD l k 0) is ∙ put-below y (jobStart n) (jobWords j) k h
+      getD-set-other v countAt k (n + 1) 0 e ∙ ap (λ (l : List ℕ). getD l k 0) is ∙ overwritten-below y (jobStart n) (jobWords j) k h
 
   word-at : (k i : ℕ) → k ≡ jobStart n + i → i < jobSize → wordIn grown k ≡ getD (jobWords j) i 0
   word-at k i e h =
       getD-set-other v countAt k (n + 1) 0 (λ q. omega arith)
       ∙ ap (λ (l : List ℕ). getD l k 0) is
-      ∙ put-at y (jobStart n) (jobWords j) k i e h (omega (arith, t .size))
+      ∙ overwritten-at y (jobStart n) (jobWords j) k i e h (omega (arith, t .size))
 
   new-job : jobAt (wordIn grown) n ≡ j
   new-job =
@@ -84,13 +84,13 @@ module _ (w y v : List ℕ) (c n : ℕ) (js : List Job) (j : Job) (room : linesA
         behind = λ k h.
             getD-set-other v countAt k (n + 1) 0 (λ e. omega arith)
             ∙ ap (λ (l : List ℕ). getD l k 0) is
-            ∙ put-from y (jobStart n) (jobWords j) k (omega arith)
+            ∙ overwritten-from y (jobStart n) (jobWords j) k (omega arith)
             ∙ t .behind k h;
       }
 
 pub add-front :
     (w v x : List ℕ) (j : Job) → linesAt ≤ length w → wordIn w countAt < mostJobs → allMarked (wordIn w) ≡ true
-    → v ≡ put w (jobStart (wordIn w countAt)) (jobWords j)
+    → v ≡ overwritten w (jobStart (wordIn w countAt)) (jobWords j)
     → x ≡ rewritten (λ k. 0) (set v countAt (wordIn w countAt + 1)) (jobStart (wordIn w countAt + 1)) linesAt
     → x ≡ fronted w (wordIn w clockAt) (jobsFrom (jobsOf (heldJobs (wordIn w)) ++ (j ∷ [])))
 add-front w v x j room less marks ev is =
@@ -105,19 +105,19 @@ add-front w v x j room less marks ev is =
 -- ---- jobs sent
 
 pub sent-none :
-    (w : List ℕ) → wordIn w countAt ≤ mostJobs → allMarked (wordIn w) ≡ true → Listed w w (wordIn w clockAt) (marked 0 (jobsOf (heldJobs (wordIn w))))
-unfolding marked
+    (w : List ℕ) → wordIn w countAt ≤ mostJobs → allMarked (wordIn w) ≡ true → Listed w w (wordIn w clockAt) (sentUpTo 0 (jobsOf (heldJobs (wordIn w))))
+unfolding sentUpTo
 sent-none w few marks = listed-own w few marks
 
 -- one job more is sent
 marked-next :
-    (js : List Job) (k : ℕ) → k < length js → marked (suc k) js ≡ set (marked k js) k (sentJob (getD (marked k js) k noJob))
-unfolding marked
+    (js : List Job) (k : ℕ) → k < length js → sentUpTo (suc k) js ≡ set (sentUpTo k js) k (sentJob (getD (sentUpTo k js) k noJob))
+unfolding sentUpTo
 marked-next [] k h = absurd (omega arith)
 marked-next (j ∷ js) zero h = refl
 marked-next (j ∷ js) (suc k) h = ap (_∷_ (sentJob j)) (marked-next js k (omega arith))
 
-module _ (w y : List ℕ) (c k : ℕ) (js : List Job) (room : linesAt ≤ length w) (lt : k < length js) (t : Listed w y c (marked k js)) where
+module _ (w y : List ℕ) (c k : ℕ) (js : List Job) (room : linesAt ≤ length w) (lt : k < length js) (t : Listed w y c (sentUpTo k js)) where
   abbrev sent : List ℕ
   sent = set y (markAt k) 1
 
@@ -134,10 +134,10 @@ module _ (w y : List ℕ) (c k : ℕ) (js : List Job) (room : linesAt ≤ length
 
   -- the jobs with job k sent too
   abbrev further : List Job
-  further = set (marked k js) k (sentJob (getD (marked k js) k noJob))
+  further = set (sentUpTo k js) k (sentJob (getD (sentUpTo k js) k noJob))
 
-  further-is : marked (k + 1) js ≡ further
-  further-is = ap (λ (i : ℕ). marked i js) (add-one k) ∙ marked-next js k lt
+  further-is : sentUpTo (k + 1) js ≡ further
+  further-is = ap (λ (i : ℕ). sentUpTo i js) (add-one k) ∙ marked-next js k lt
 
   job-then : (m : ℕ) → m < length js → Dec (m ≡ k) → jobAt (wordIn sent) m ≡ getD further m noJob
   job-then m h (yes e) =
@@ -146,20 +146,20 @@ module _ (w y : List ℕ) (c k : ℕ) (js : List Job) (room : linesAt ≤ length
       ∙ ap sentJob (t .jobs k (omega (arith, length-marked k js)))
       ∙ sym
       (ap (λ (i : ℕ). getD further i noJob) e
-      ∙ getD-set-same (marked k js) k (sentJob (getD (marked k js) k noJob)) noJob (omega (arith, length-marked k js)))
+      ∙ getD-set-same (sentUpTo k js) k (sentJob (getD (sentUpTo k js) k noJob)) noJob (omega (arith, length-marked k js)))
   job-then m h (no ne) =
       job-same (wordIn sent) (wordIn y) m (λ i lo hi. other i (λ e. ne (omega arith)))
       ∙ t .jobs m (omega (arith, length-marked k js))
-      ∙ sym (getD-set-other (marked k js) k m (sentJob (getD (marked k js) k noJob)) noJob ne)
+      ∙ sym (getD-set-other (sentUpTo k js) k m (sentJob (getD (sentUpTo k js) k noJob)) noJob ne)
 
   mark-then : (m : ℕ) → m < length js → Dec (m ≡ k) → wordIn sent (markAt m) ≤ 1
   mark-then m h (yes e) = omega (arith, now-one (markAt m) (omega arith))
   mark-then m h (no ne) = omega (arith, other (markAt m) (λ e. ne (omega arith)), t .marks m (omega (arith, length-marked k js)))
 
-  pub sent-more : Listed w sent c (marked (k + 1) js)
+  pub sent-more : Listed w sent c (sentUpTo (k + 1) js)
   sent-more =
-      let before : length (marked k js) ≡ length js = length-marked k js in
-      let after : length (marked (k + 1) js) ≡ length js = length-marked (k + 1) js in
+      let before : length (sentUpTo k js) ≡ length js = length-marked k js in
+      let after : length (sentUpTo (k + 1) js) ≡ length js = length-marked (k + 1) js in
       record {
         size = length-set y (markAt k) 1 ∙ t .size;
         head = λ i h nc nn. other i (λ e. omega arith) ∙ t .head i h nc nn;
@@ -172,11 +172,11 @@ module _ (w y : List ℕ) (c k : ℕ) (js : List Job) (room : linesAt ≤ length
       }
 
 pub sent-front :
-    (w y x : List ℕ) (n : ℕ) → linesAt ≤ length w → wordIn w countAt ≤ mostJobs → Listed w y (wordIn w clockAt) (marked n (jobsOf (heldJobs (wordIn w))))
-    → x ≡ rewritten (λ k. 0) y (jobStart (wordIn w countAt)) linesAt → x ≡ fronted w (wordIn w clockAt) (jobsFrom (marked n (jobsOf (heldJobs (wordIn w)))))
+    (w y x : List ℕ) (n : ℕ) → linesAt ≤ length w → wordIn w countAt ≤ mostJobs → Listed w y (wordIn w clockAt) (sentUpTo n (jobsOf (heldJobs (wordIn w))))
+    → x ≡ rewritten (λ k. 0) y (jobStart (wordIn w countAt)) linesAt → x ≡ fronted w (wordIn w clockAt) (jobsFrom (sentUpTo n (jobsOf (heldJobs (wordIn w)))))
 sent-front w y x n room few t is =
     let js : List Job = jobsOf (heldJobs (wordIn w)) in
-    listed-front w y x (wordIn w clockAt) (wordIn w countAt) (marked n js) room (sym (length-marked n js ∙ held-jobs (wordIn w) few)) t is
+    listed-front w y x (wordIn w clockAt) (wordIn w countAt) (sentUpTo n js) room (sym (length-marked n js ∙ held-jobs (wordIn w) few)) t is
 
 -- ---- the oldest gone
 

@@ -15,7 +15,7 @@ use native.Mathlib.Decide.{ℕ-discrete, decLt}
 use native.Mathlib.Omega.{arith}
 use Rattle.spec_plain.specs.Limits.{mostJobs}
 use Rattle.spec_plain.specs.declared.Job.{Job}
-use Rattle.part_lines.specs.Held.{noJob, jobsOf, jobsFrom}
+use Rattle.part_lines.specs.ArrayLists.{noJob, jobsOf, jobsFrom}
 use Rattle.part_lines.specs.Padded.{padded}
 use Rattle.part_lines.proofs.Padded.{length-padded, padded-at}
 use Rattle.base_lists.specs.Loops.{build, rewritten}
@@ -24,12 +24,12 @@ use Rattle.base_lists.proofs.Build.{build-same, build-at, build-back}
 use Rattle.base_lists.proofs.Rewritten.{rewritten-length, rewritten-in, rewritten-below, rewritten-from}
 use Rattle.part_boardwords.specs.Layout.{clockAt, countAt, headSize, jobsSize, jobsAt, linesAt, jobStart, markAt}
 use Rattle.part_boardwords.specs.Words.{Words, wordIn, jobAt, jobsRead, heldJobs, isMarked, allMarked}
-use Rattle.part_boardwords.specs.Codec.{jobsWords, put}
-use Rattle.part_boardwords.proofs.Put.{length-jobs}
+use Rattle.part_boardwords.specs.Codec.{jobsWords, overwritten}
+use Rattle.part_boardwords.proofs.Overwritten.{length-jobs}
 use Rattle.part_boardwords.proofs.Inverse.{jobs-read}
 use Rattle.part_boardwords.proofs.Parts.{job-same, job-zero}
 use Rattle.part_boardwords.proofs.Boards.{held-jobs, held-job}
-use Rattle.part_boardwords.proofs.Written.{put-is}
+use Rattle.part_boardwords.proofs.Written.{overwritten-is}
 use Rattle.part_jobwords.specs.Fronted.{fronted}
 use Rattle.part_jobwords.specs.Listed.{Listed}
 
@@ -88,7 +88,7 @@ module _ (w x : List ℕ) (c : ℕ) (js : List Job) (room : linesAt ≤ length w
   front-is =
       let jobs : List ℕ = jobsWords (padded mostJobs noJob js) in
       let many : length jobs ≡ jobsSize = length-jobs (padded mostJobs noJob js) in
-      put-is headed x jobsAt jobs (t .size ∙ sym headed-size) (omega (arith, many, headed-size))
+      overwritten-is headed x jobsAt jobs (t .size ∙ sym headed-size) (omega (arith, many, headed-size))
       (λ i h. sym (ap (λ (l : List ℕ). getD l i 0) words-are ∙ build-at (λ j. wordIn x (jobsAt + j)) jobsSize i 0 (omega (arith, many))))
       (λ k h. head-is k h (ℕ-discrete k clockAt) (ℕ-discrete k countAt))
       (λ k h. t .behind k (omega (arith, many)) ∙ sym (headed-other k (λ e. omega arith) (λ e. omega arith)))

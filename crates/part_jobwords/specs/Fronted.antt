@@ -5,7 +5,7 @@ use mathlib.Core.List.{List}
 use lib.ListN.{set}
 use Rattle.part_lines.specs.declared.Jobs.{Jobs}
 use Rattle.part_boardwords.specs.Layout.{clockAt, countAt, jobsAt}
-use Rattle.part_boardwords.specs.Codec.{jobsWords, put}
+use Rattle.part_boardwords.specs.Codec.{jobsWords, overwritten}
 
 abbrev pub fronted : List ℕ → ℕ → Jobs → List ℕ
-fronted w c jobs = put (set (set w clockAt c) countAt (jobs .count)) jobsAt (jobsWords (jobs .jobs))
+fronted w c jobs = overwritten (set (set w clockAt c) countAt (jobs .count)) jobsAt (jobsWords (jobs .jobs))

@@ -6,7 +6,7 @@ use mathlib.Core.List.{List}
 use lib.ListN.{length, getD}
 use Rattle.spec_plain.specs.Limits.{mostJobs}
 use Rattle.spec_plain.specs.declared.Job.{Job}
-use Rattle.part_lines.specs.Held.{noJob}
+use Rattle.part_lines.specs.ArrayLists.{noJob}
 use Rattle.part_boardwords.specs.Layout.{clockAt, countAt, jobsAt, linesAt, markAt}
 use Rattle.part_boardwords.specs.Words.{wordIn, jobAt}
 

@@ -4,23 +4,23 @@ use part_boardwords::clear_jobs;
 use part_boardwords::layout;
 use part_boardwords::move_jobs_down;
 use part_boardwords::new_job;
-use part_boardwords::put_job;
-use part_boardwords::put_sent;
+use part_boardwords::write_job;
+use part_boardwords::write_sent;
 ghost use mathlib.Core.Bool.{true};
 ghost use mathlib.Core.Path.{_≡_};
 ghost use mathlib.Core.List.{[], _∷_, _++_};
 ghost use Prim.Native.Nat.{_≤_, _<_};
 ghost use lib.ListN.{length, drop};
 ghost use Rattle.spec_plain.specs.Limits.{mostJobs};
-ghost use Rattle.spec_plain.specs.Plain.{newJob, marked};
-ghost use Rattle.part_lines.specs.Held.{jobsOf, jobsFrom};
+ghost use Rattle.spec_plain.specs.Plain.{newJob, sentUpTo};
+ghost use Rattle.part_lines.specs.ArrayLists.{jobsOf, jobsFrom};
 ghost use Rattle.part_boardwords.specs.Layout.{clockAt, countAt, cellsAt};
 ghost use Rattle.part_boardwords.specs.Words.{wordIn, heldJobs, allMarked};
 ghost use Rattle.part_jobwords.specs.Fronted.{fronted};
 ghost use Rattle.part_jobwords.specs.Listed.{Listed};
 
 // Another clock. The jobs stay, with 0 in every place not in use.
-pub fn put_clock(w: &mut [u32], clock: u32)
+pub fn write_clock(w: &mut [u32], clock: u32)
     requires { ⌜ (cellsAt ≤ length (now w)) × (wordIn (now w) countAt ≤ mostJobs) × (allMarked (wordIn (now w)) ≡ true) ⌝ }
     ensures { λ _. ⌜ now (w .exit) ≡ fronted (now (w .entry)) clock (jobsFrom (jobsOf (heldJobs (wordIn (now (w .entry)))))) ⌝ }
 {
@@ -37,7 +37,7 @@ pub fn add_job(w: &mut [u32], points: u32, batch: u32)
 {
     let count = w[layout::COUNT_AT] as usize;
     let next = count + 1;
-    put_job(w, count, new_job(points, batch));
+    write_job(w, count, new_job(points, batch));
     w[layout::COUNT_AT] = next as u32;
     clear_jobs(w, next);
 }
@@ -45,10 +45,10 @@ pub fn add_job(w: &mut [u32], points: u32, batch: u32)
 // The mark of each of the first n jobs is 1.
 fn set_marks(w: &mut [u32], n: usize)
     requires { ⌜ (cellsAt ≤ length (now w)) × (n ≤ wordIn (now w) countAt) × (wordIn (now w) countAt ≤ mostJobs) × (allMarked (wordIn (now w)) ≡ true) ⌝ }
-    ensures { λ _. ⌜ Listed (now (w .entry)) (now (w .exit)) (wordIn (now (w .entry)) clockAt) (marked n (jobsOf (heldJobs (wordIn (now (w .entry)))))) ⌝ }
+    ensures { λ _. ⌜ Listed (now (w .entry)) (now (w .exit)) (wordIn (now (w .entry)) clockAt) (sentUpTo n (jobsOf (heldJobs (wordIn (now (w .entry)))))) ⌝ }
 {
     for k in 0..n {
-        put_sent(w, k);
+        write_sent(w, k);
     }
 }
 
@@ -56,7 +56,7 @@ fn set_marks(w: &mut [u32], n: usize)
 pub fn mark_sent(w: &mut [u32], n: usize)
     requires { ⌜ (cellsAt ≤ length (now w)) × (n ≤ wordIn (now w) countAt) × (wordIn (now w) countAt ≤ mostJobs) × (allMarked (wordIn (now w)) ≡ true) ⌝ }
     ensures { λ _. ⌜ now (w .exit) ≡ fronted (now (w .entry)) (wordIn (now (w .entry)) clockAt)
-        (jobsFrom (marked n (jobsOf (heldJobs (wordIn (now (w .entry))))))) ⌝ }
+        (jobsFrom (sentUpTo n (jobsOf (heldJobs (wordIn (now (w .entry))))))) ⌝ }
 {
     let count = w[layout::COUNT_AT] as usize;
     set_marks(w, n);

@@ -6,7 +6,7 @@ mod reading; // how many points are live, whether another job fits, and the rule
 pub use changing::add_job;
 pub use changing::drop_oldest;
 pub use changing::mark_sent;
-pub use changing::put_clock;
+pub use changing::write_clock;
 pub use reading::add_batch;
 pub use reading::is_full;
 pub use reading::points_in;

@@ -20,7 +20,7 @@ ghost use lib.Dec.{eqb};
 ghost use lib.ListN.{length};
 ghost use Rattle.spec_plain.specs.Limits.{mostJobs, mostPoints};
 ghost use Rattle.spec_plain.specs.Plain.{State, total, full, trayGap, notBefore, afterNewest, batchRules, starts};
-ghost use Rattle.part_lines.specs.Held.{jobsOf, rulesOf, rulesFrom, maybeFrom, endRule};
+ghost use Rattle.part_lines.specs.ArrayLists.{jobsOf, rulesOf, rulesFrom, maybeFrom, endRule};
 ghost use Rattle.part_lines.specs.Asked.{Sized, Room};
 ghost use Rattle.base_lists.specs.All.{All};
 ghost use Rattle.part_boardwords.specs.Layout.{countAt, cellsAt};

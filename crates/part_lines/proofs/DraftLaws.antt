@@ -11,7 +11,7 @@ use native.Mathlib.Omega.{arith}
 use borrow.Author.Tests.{leb-false, ltb-false}
 use Rattle.spec_plain.specs.Limits.{mostJobs, mostPoints, resources, mostUses}
 use Rattle.spec_plain.specs.Plain.{State, total, full}
-use Rattle.part_lines.specs.Held.{lineOf, lineFrom, linesOf, linesFrom, noLine}
+use Rattle.part_lines.specs.ArrayLists.{lineOf, lineFrom, linesOf, linesFrom, noLine}
 use Rattle.part_lines.specs.Asked.{AllShort, Lined, Ready}
 use Rattle.spec_plain.specs.declared.Use.{Use}
 use Rattle.part_lines.specs.declared.Line.{Line}

@@ -12,8 +12,8 @@ use lib.ListN.{length, getD}
 use native.Mathlib.Omega.{arith}
 use borrow.Author.Tests.{le-leb, lt-leb}
 use Rattle.spec_plain.specs.Limits.{mostJobs, mostPoints}
-use Rattle.spec_plain.specs.Plain.{State, total, full, marked, unsentAt}
-use Rattle.part_lines.specs.Held.{jobsOf, jobsFrom, noJob}
+use Rattle.spec_plain.specs.Plain.{State, total, full, sentUpTo, unsentAt}
+use Rattle.part_lines.specs.ArrayLists.{jobsOf, jobsFrom, noJob}
 use Rattle.spec_plain.specs.declared.Job.{Job}
 use Rattle.part_lines.proofs.Padded.{take-padded}
 
@@ -22,8 +22,8 @@ jobs-back js h = take-padded mostJobs noJob js h
 
 -- ---- marked
 
-pub length-marked : (k : ℕ) (js : List Job) → length (marked k js) ≡ length js
-unfolding marked
+pub length-marked : (k : ℕ) (js : List Job) → length (sentUpTo k js) ≡ length js
+unfolding sentUpTo
 length-marked zero js = refl
 length-marked (suc k) [] = refl
 length-marked (suc k) (j ∷ js) = ap suc (length-marked k js)

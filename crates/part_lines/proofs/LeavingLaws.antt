@@ -14,8 +14,8 @@ use native.Mathlib.Omega.{arith}
 use lib.Dec.{leb, ltb}
 use lib.ListN.{length}
 use borrow.Author.Tests.{lt-ltb, le-ltb, ltb-true, le-leb}
-use Rattle.spec_plain.specs.Plain.{goes, over, staying}
-use Rattle.part_lines.specs.Held.{lineOf, lineFrom, linesOf, linesFrom}
+use Rattle.spec_plain.specs.Plain.{goes, newNumber, staying}
+use Rattle.part_lines.specs.ArrayLists.{lineOf, lineFrom, linesOf, linesFrom}
 use Rattle.spec_plain.specs.declared.Use.{Use}
 use Rattle.part_lines.specs.declared.Line.{Line}
 
@@ -39,12 +39,12 @@ goes-later f m x e h = go (decLt x (f + m))
         let t : (leb f x && ltb x (f + m)) ≡ true = rw (le-leb f x h, lt-ltb x (f + m) lt) in
         absurd (false≢true (sym e ∙ t))
 
-pub over-before : (f m x : ℕ) → x < f → over f m x ≡ x
-unfolding over
+pub over-before : (f m x : ℕ) → x < f → newNumber f m x ≡ x
+unfolding newNumber
 over-before f m x h = rw (lt-ltb x f h)
 
-pub over-later : (f m x : ℕ) → f ≤ x → over f m x ≡ x - m
-unfolding over
+pub over-later : (f m x : ℕ) → f ≤ x → newNumber f m x ≡ x - m
+unfolding newNumber
 over-later f m x h = rw (le-ltb x f h)
 
 -- ---- a line
@@ -56,7 +56,7 @@ module _ (f m : ℕ) where
 
   pub stays-one :
       (u : Use) → goes f m (u .point) ≡ false
-      → staying f m (u ∷ []) ≡ record { point = over f m (u .point); offset = u .offset; length = u .length } ∷ []
+      → staying f m (u ∷ []) ≡ record { point = newNumber f m (u .point); offset = u .offset; length = u .length } ∷ []
   unfolding staying
   stays-one u e = rw e
 
@@ -66,7 +66,7 @@ module _ (f m : ℕ) where
   few-stay (u ∷ l) = go (goes f m (u .point)) (few-stay l)
     where
       moved : Use
-      moved = record { point = over f m (u .point); offset = u .offset; length = u .length }
+      moved = record { point = newNumber f m (u .point); offset = u .offset; length = u .length }
 
       go : (b : Bool) → length (staying f m l) ≤ length l → length (cond b [] (moved ∷ []) ++ staying f m l) ≤ suc (length l)
       go true h = omega arith
@@ -77,7 +77,7 @@ module _ (f m : ℕ) where
   staying-append [] r = refl
   staying-append (u ∷ l) r =
       let here : List Use =
-      cond (goes f m (u .point)) [] (record { point = over f m (u .point); offset = u .offset; length = u .length } ∷ []) in
+      cond (goes f m (u .point)) [] (record { point = newNumber f m (u .point); offset = u .offset; length = u .length } ∷ []) in
       ap (_++_ here) (staying-append l r) ∙ sym (append-assoc here (staying f m l) (staying f m r))
 
   -- ---- all lines

@@ -9,7 +9,7 @@ use lib.ListN.{length, length-take}
 use native.Mathlib.Omega.{arith}
 use Rattle.spec_plain.specs.Limits.{mostUses}
 use Rattle.spec_plain.specs.Plain.{noUse, inserted}
-use Rattle.part_lines.specs.Held.{lineOf, lineFrom, linesOf, linesFrom}
+use Rattle.part_lines.specs.ArrayLists.{lineOf, lineFrom, linesOf, linesFrom}
 use Rattle.spec_plain.specs.declared.Use.{Use}
 use Rattle.part_lines.specs.declared.Line.{Line}
 use Rattle.part_lines.proofs.Padded.{take-padded}

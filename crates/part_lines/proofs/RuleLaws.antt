@@ -19,7 +19,7 @@ use lib.ListN.{length, getD, set, length-append}
 use native.Mathlib.Omega.{arith}
 use borrow.Author.Tests.{lt-ltb, le-ltb, eq-eqb, ne-eqb}
 use Rattle.spec_plain.specs.Plain.{inOrder, noUse, ruleBefore, ruleAfter, durations, orElse, afterNewest, batchRules, notBefore, starts}
-use Rattle.part_lines.specs.Held.{rulesOf, rulesFrom, maybeFrom, noRule, endRule, mostRules}
+use Rattle.part_lines.specs.ArrayLists.{rulesOf, rulesFrom, maybeFrom, noRule, endRule, mostRules}
 use Rattle.part_lines.specs.Asked.{Room}
 use Rattle.spec_plain.specs.declared.Job.{Job}
 use Rattle.spec_plain.specs.declared.Settings.{Settings}

@@ -11,12 +11,12 @@ use mathlib.Core.List.{List, []}
 use lib.ListN.{length, getD}
 use Rattle.spec_plain.specs.Limits.{mostJobs, mostPoints, resources, mostSteps, mostUses}
 use Rattle.spec_plain.specs.Plain.{noUse, total}
-use Rattle.part_lines.specs.Held.{jobsOf, linesOf, linesFrom, rulesOf, rulesFrom, noLine, mostRules}
+use Rattle.part_lines.specs.ArrayLists.{jobsOf, linesOf, linesFrom, rulesOf, rulesFrom, noLine, mostRules}
 use Rattle.part_lines.specs.declared.Jobs.{Jobs}
 use Rattle.spec_plain.specs.declared.Use.{Use}
 use Rattle.part_lines.specs.declared.Line.{Line}
 use Rattle.part_lines.specs.declared.rulelist.Rules.{Rules}
-use Rattle.spec_plain.specs.declared.Put.{Put}
+use Rattle.spec_plain.specs.declared.Allocation.{Allocation}
 
 -- "At most 16 jobs and, beside the origin, 64 points are live."
 pub record Sized (jobs : Jobs) : Type 0 where
@@ -48,7 +48,7 @@ pub record Room (n : ℕ) (rules : Rules) : Type 0 where
   pub tidy : rules ≡ rulesFrom (rulesOf rules)
 
 -- "n allocations of resource (0 to 15), offset (0 to 1,000,000), length (1 to 1,000,000)", in one of at most 8 steps
-pub record Readable (p : Put) : Type 0 where
+pub record Readable (p : Allocation) : Type 0 where
   pub resource : p .resource < resources
   pub step : p .step ≤ mostSteps
   pub offset : p .offset ≤ 1000000

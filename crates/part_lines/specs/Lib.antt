@@ -1,4 +1,4 @@
 pub mod Padded
-pub mod Held
+pub mod ArrayLists
 pub mod Asked
 pub mod Placing

@@ -7,20 +7,20 @@ use Prim.Native.Nat.{ℕ, _≤_, _<_}
 use mathlib.Core.List.{List, [], _∷_}
 use lib.ListN.{length, getD, set}
 use Rattle.spec_plain.specs.Limits.{mostUses}
-use Rattle.spec_plain.specs.declared.Put.{Put}
+use Rattle.spec_plain.specs.declared.Allocation.{Allocation}
 use Rattle.spec_plain.specs.declared.Use.{Use}
 use Rattle.spec_plain.specs.Plain.{usedFrom, inserted}
 
-abbrev pub lineFor : List (List Use) → Put → List Use
+abbrev pub lineFor : List (List Use) → Allocation → List Use
 lineFor ls p = getD ls (p .resource) []
 
-abbrev pub linesWith : ℕ → List (List Use) → Put → List (List Use)
+abbrev pub linesWith : ℕ → List (List Use) → Allocation → List (List Use)
 linesWith x ls p = set ls (p .resource) (inserted (p .place) (usedFrom x p) (lineFor ls p))
 
-unfoldable pub allWith : ℕ → List (List Use) → List Put → List (List Use)
+unfoldable pub allWith : ℕ → List (List Use) → List Allocation → List (List Use)
 allWith x ls [] = ls
 allWith x ls (p ∷ ps) = allWith x (linesWith x ls p) ps
 
-unfoldable pub AllFit : ℕ → List (List Use) → List Put → Type 0
+unfoldable pub AllFit : ℕ → List (List Use) → List Allocation → Type 0
 AllFit x ls [] = Unit {0}
 AllFit x ls (p ∷ ps) = (p .place ≤ length (lineFor ls p)) × (length (lineFor ls p) < mostUses) × AllFit x (linesWith x ls p) ps

@@ -1,7 +1,7 @@
 // The list of jobs by value: how many points are live. What the calls do to it they do in words (crate part_jobwords).
 ghost use mathlib.Core.Path.{_≡_};
 ghost use Rattle.spec_plain.specs.Plain.{total};
-ghost use Rattle.part_lines.specs.Held.{jobsOf};
+ghost use Rattle.part_lines.specs.ArrayLists.{jobsOf};
 ghost use Rattle.part_lines.specs.Asked.{Sized};
 use crate::Jobs;
 

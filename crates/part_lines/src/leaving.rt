@@ -5,7 +5,7 @@ ghost use mathlib.Core.List.{[], _∷_};
 ghost use Prim.Native.Nat.{_+_, _≤_};
 ghost use lib.ListN.{length, getD};
 ghost use Rattle.spec_plain.specs.Limits.{side};
-ghost use Rattle.spec_plain.specs.Plain.{noUse, goes, over, staying};
+ghost use Rattle.spec_plain.specs.Plain.{noUse, goes, newNumber, staying};
 use spec_plain::Use;
 
 // Whether point x is one of those that leave.
@@ -19,7 +19,7 @@ pub fn goes(f: u32, m: u32, x: u32) -> bool
 // The new number of a point that stays.
 fn over(f: u32, m: u32, x: u32) -> u32
     requires { ⌜ goes f m x ≡ false ⌝ }
-    ensures { λ r. ⌜ r ≡ over f m x ⌝ }
+    ensures { λ r. ⌜ r ≡ newNumber f m x ⌝ }
 {
     if x < f {
         return x;

@@ -6,7 +6,7 @@ ghost use Prim.Native.Nat.{_+_, _*_, _≤_};
 ghost use lib.ListN.{getD};
 ghost use Rattle.spec_plain.specs.Limits.{mostPoints, mostSteps};
 ghost use Rattle.spec_plain.specs.Plain.{endOf, trayGap, notBefore, inOrder, durations};
-ghost use Rattle.part_lines.specs.Held.{stepsOf, rulesOf, rulesFrom, maybeFrom, noRule};
+ghost use Rattle.part_lines.specs.ArrayLists.{stepsOf, rulesOf, rulesFrom, maybeFrom, noRule};
 ghost use Rattle.part_lines.specs.Asked.{Short, Room};
 use crate::Steps;
 use spec_plain::Rule;
@@ -16,7 +16,7 @@ use spec_plain::Use;
 use spec_plain::limits;
 
 // A plan makes at most 1 rule by (b), two for each step by (c), two for each allocation by (d), and 1 by (e). Other calls make fewer.
-pub const MOST_RULES: usize = 1 + 2 * limits::MOST_STEPS + 2 * limits::MOST_PUTS + 1;
+pub const MOST_RULES: usize = 1 + 2 * limits::MOST_STEPS + 2 * limits::MOST_ALLOCATIONS + 1;
 
 // The rules that one call makes.
 pub struct Rules {

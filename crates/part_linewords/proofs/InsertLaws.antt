@@ -16,15 +16,15 @@ use Rattle.spec_plain.specs.Plain.{noUse, inserted}
 use Rattle.spec_plain.specs.declared.Use.{Use}
 use Rattle.part_lines.specs.declared.Line.{Line}
 use Rattle.part_lines.specs.Padded.{padded}
-use Rattle.part_lines.specs.Held.{lineOf, lineFrom}
+use Rattle.part_lines.specs.ArrayLists.{lineOf, lineFrom}
 use Rattle.part_lines.proofs.Padded.{length-padded, padded-at}
 use Rattle.part_lines.proofs.LineLaws.{length-inserted}
 use Rattle.part_boardwords.specs.Layout.{useSize, lineEnd, useStart}
 use Rattle.part_boardwords.specs.Words.{wordIn, upByUse, useAt, usesRead, lineRead}
-use Rattle.part_boardwords.specs.Codec.{useWords, put}
+use Rattle.part_boardwords.specs.Codec.{useWords, overwritten}
 use Rattle.base_lists.proofs.Build.{build-length, build-at}
-use Rattle.part_boardwords.proofs.Put.{put-length, put-below, put-from}
-use Rattle.part_boardwords.proofs.Written.{put-at}
+use Rattle.part_boardwords.proofs.Overwritten.{overwritten-length, overwritten-below, overwritten-from}
+use Rattle.part_boardwords.proofs.Written.{overwritten-at}
 use Rattle.part_linewords.specs.Beside.{Tidy, Beside}
 use Rattle.part_boardwords.proofs.Parts.{use-by, use-written}
 use Rattle.part_lines.proofs.Inserted.{inserted-below, inserted-here, inserted-behind}
@@ -34,14 +34,14 @@ use Rattle.part_lines.proofs.Inserted.{inserted-below, inserted-here, inserted-
 module _
     (W M P : List ℕ) (at place n : ℕ) (u : Use) (fits : lineEnd at ≤ length W) (in-place : place ≤ n) (few : n < 32)
     (moved : M ≡ rewritten (upByUse W) W (useStart at place + useSize) (useStart at n + useSize))
-    (stored : P ≡ put M (useStart at place) (useWords u)) where
+    (stored : P ≡ overwritten M (useStart at place) (useWords u)) where
   length-moved : length M ≡ length W
   length-moved = rw moved (rewritten-length (upByUse W) W (useStart at place + useSize) (useStart at n + useSize))
 
   length-stored : length P ≡ length W
-  length-stored = rw stored (put-length M (useStart at place) (useWords u) ∙ length-moved)
+  length-stored = rw stored (overwritten-length M (useStart at place) (useWords u) ∙ length-moved)
 
-  other : (k : ℕ) → (k ≡ at → ⊥) → getD (set P at (n + 1)) k 0 ≡ getD (put M (useStart at place) (useWords u)) k 0
+  other : (k : ℕ) → (k ≡ at → ⊥) → getD (set P at (n + 1)) k 0 ≡ getD (overwritten M (useStart at place) (useWords u)) k 0
   other k h = getD-set-other P at k (n + 1) 0 h ∙ rw stored refl
 
   word-count : getD (set P at (n + 1)) at 0 ≡ n + 1
@@ -50,7 +50,7 @@ module _
   word-before : (k : ℕ) → (k ≡ at → ⊥) → k < useStart at place → getD (set P at (n + 1)) k 0 ≡ getD W k 0
   word-before k h l =
       other k h
-      ∙ put-below M (useStart at place) (useWords u) k l
+      ∙ overwritten-below M (useStart at place) (useWords u) k l
       ∙ rw moved (rewritten-below (upByUse W) W (useStart at place + useSize) (useStart at n + useSize) k (omega arith))
 
   word-moved :
@@ -58,14 +58,14 @@ module _
       → getD (set P at (n + 1)) k 0 ≡ getD W j 0
   word-moved k j lo hi e =
       other k (λ c. omega arith)
-      ∙ put-from M (useStart at place) (useWords u) k lo
+      ∙ overwritten-from M (useStart at place) (useWords u) k lo
       ∙ rw moved (rewritten-in (upByUse W) W (useStart at place + useSize) (useStart at n + useSize) k lo hi (omega arith))
       ∙ ap (λ (i : ℕ). getD W i 0) e
 
   word-behind : (k : ℕ) → useStart at n + useSize ≤ k → getD (set P at (n + 1)) k 0 ≡ getD W k 0
   word-behind k h =
       other k (λ c. omega arith)
-      ∙ put-from M (useStart at place) (useWords u) k (omega arith)
+      ∙ overwritten-from M (useStart at place) (useWords u) k (omega arith)
       ∙ rw moved (rewritten-from (upByUse W) W (useStart at place + useSize) (useStart at n + useSize) k h)
 
   pub beside-line : Beside at (wordIn W) (wordIn (set P at (n + 1)))
@@ -87,7 +87,7 @@ module _
       let room : useStart at place + useSize ≤ length M = omega (arith, length-moved) in
       use-written (wordIn (set P at (n + 1))) (useStart at i) u
       (λ k l. other (useStart at i + k) (λ c. omega arith)
-      ∙ put-at M (useStart at place) (useWords u) (useStart at i + k) k (omega arith) l room)
+      ∙ overwritten-at M (useStart at place) (useWords u) (useStart at i + k) k (omega arith) l room)
 
   use-moved : (i : ℕ) → place ≤ i → i < n → now-use (suc i) ≡ old-use i
   use-moved i lo hi =

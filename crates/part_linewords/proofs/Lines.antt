@@ -15,18 +15,18 @@ use Rattle.spec_plain.specs.Limits.{resources, mostUses}
 use Rattle.spec_plain.specs.declared.Use.{Use}
 use Rattle.spec_plain.specs.Plain.{noUse}
 use Rattle.part_lines.specs.declared.Line.{Line}
-use Rattle.part_lines.specs.Held.{lineOf, noLine, lineFrom}
+use Rattle.part_lines.specs.ArrayLists.{lineOf, noLine, lineFrom}
 use Rattle.part_lines.proofs.Lists.{map-at}
 use Rattle.base_lists.specs.Loops.{rewritten}
 use Rattle.base_lists.proofs.Rewritten.{rewritten-length, rewritten-in, rewritten-below, rewritten-from}
 use Rattle.part_boardwords.specs.Layout.{lineSize, linesAt, lineStart, lineEnd, useStart}
 use Rattle.part_boardwords.specs.Words.{Words, wordIn, useAt, lineRead, lineAt, linesRead}
-use Rattle.part_boardwords.specs.Codec.{joined, lineWords, put}
+use Rattle.part_boardwords.specs.Codec.{joined, lineWords, overwritten}
 use Rattle.base_lists.proofs.Build.{build-length, build-at}
 use Rattle.part_boardwords.proofs.Parts.{use-by, use-zero}
 use Rattle.part_boardwords.proofs.Boards.{line-count, held-size, held-use, same-line}
 use Rattle.part_boardwords.proofs.Blocks.{length-joined}
-use Rattle.part_boardwords.proofs.Put.{put-line-turn, length-line, put-from}
+use Rattle.part_boardwords.proofs.Overwritten.{overwritten-line-turn, length-line, overwritten-from}
 use Rattle.part_linewords.proofs.Places.{line-put}
 
 -- ---- a line
@@ -37,7 +37,7 @@ line-held :
     → wordIn x at ≡ n → ((m : ℕ) → m < n → useAt (wordIn x) at m ≡ getD us m noUse)
     → ((k : ℕ) → useStart at n ≤ k → k < lineEnd at → wordIn x k ≡ 0)
     → ((k : ℕ) → k < at → wordIn x k ≡ wordIn w k) → ((k : ℕ) → lineEnd at ≤ k → wordIn x k ≡ wordIn w k)
-    → x ≡ put w at (lineWords (lineFrom us))
+    → x ≡ overwritten w at (lineWords (lineFrom us))
 line-held w x at n us size few room len count uses clear below from =
     line-put w x at us (omega arith) len room (count ∙ size) (λ m h. go m h (decLt m n)) below from
   where
@@ -57,7 +57,7 @@ pub cleared-put :
     (w y x : List ℕ) (at n : ℕ) (us : List Use) → n ≡ length us → n ≤ 32 → lineEnd at ≤ length w → length y ≡ length w
     → wordIn y at ≡ n → ((m : ℕ) → m < n → useAt (wordIn y) at m ≡ getD us m noUse)
     → ((k : ℕ) → k < at → wordIn y k ≡ wordIn w k) → ((k : ℕ) → lineEnd at ≤ k → wordIn y k ≡ wordIn w k)
-    → x ≡ rewritten (λ k. 0) y (useStart at n) (lineEnd at) → x ≡ put w at (lineWords (lineFrom us))
+    → x ≡ rewritten (λ k. 0) y (useStart at n) (lineEnd at) → x ≡ overwritten w at (lineWords (lineFrom us))
 cleared-put w y x at n us size few room len count uses below from is =
     line-held w x at n us size few room (ap length is ∙ rewritten-length z y (useStart at n) (lineEnd at) ∙ len) (early at (omega arith) ∙ count)
     (λ m lt. same-words (wordIn x) (wordIn y) at m n lt (λ k lo hi. early k hi) ∙ uses m lt)
@@ -74,7 +74,7 @@ cleared-put w y x at n us size few room len count uses below from is =
 pub tidy-put :
     (w x : List ℕ) (at : ℕ) → lineEnd at ≤ length w → wordIn w at ≤ mostUses
     → x ≡ rewritten (λ k. 0) w (useStart at (wordIn w at)) (lineEnd at)
-    → x ≡ put w at (lineWords (lineFrom (lineOf (lineRead (wordIn w) at))))
+    → x ≡ overwritten w at (lineWords (lineFrom (lineOf (lineRead (wordIn w) at))))
 tidy-put w x at room few is =
     cleared-put w w x at (wordIn w at) (lineOf (lineRead (wordIn w) at)) (sym (held-size (wordIn w) at few)) few room refl refl
     (λ m h. sym (held-use (wordIn w) at m h (omega arith))) (λ k h. refl) (λ k h. refl) is
@@ -87,7 +87,7 @@ module _ (h : Line → Line) (w₀ : List ℕ) where
   changed = map h (linesRead (wordIn w₀))
 
   abbrev pub turned : ℕ → List ℕ
-  turned k = put w₀ linesAt (joined (λ i. lineWords (getD changed i noLine)) k)
+  turned k = overwritten w₀ linesAt (joined (λ i. lineWords (getD changed i noLine)) k)
 
   changed-at : (k : ℕ) → k < resources → getD changed k noLine ≡ h (lineAt (wordIn w₀) k)
   changed-at k l =
@@ -99,25 +99,25 @@ module _ (h : Line → Line) (w₀ : List ℕ) where
   words-ahead w k is i l =
       let f : ℕ → List ℕ = λ i. lineWords (getD changed i noLine) in
       let size : length (joined f k) ≡ lineSize * k = length-joined f lineSize k (λ i. length-line (getD changed i noLine)) in
-      ap (λ (q : List ℕ). getD q i 0) is ∙ put-from w₀ linesAt (joined f k) i (omega (arith, size))
+      ap (λ (q : List ℕ). getD q i 0) is ∙ overwritten-from w₀ linesAt (joined f k) i (omega (arith, size))
 
   -- line k is still what it was
   lines-ahead : (w : List ℕ) (k : ℕ) → w ≡ turned k → lineAt (wordIn w) k ≡ lineAt (wordIn w₀) k
   lines-ahead w k is = same-line (wordIn w) (wordIn w₀) (lineStart k) (λ i l m. words-ahead w k is i l)
 
   pub lines-turn :
-      (w x : List ℕ) (k at : ℕ) → w ≡ turned k → k < resources → at ≡ lineStart k → x ≡ put w at (lineWords (h (lineRead (wordIn w) at)))
+      (w x : List ℕ) (k at : ℕ) → w ≡ turned k → k < resources → at ≡ lineStart k → x ≡ overwritten w at (lineWords (h (lineRead (wordIn w) at)))
       → x ≡ turned (k + 1)
   lines-turn w x k at is l start new =
       let one : h (lineAt (wordIn w) k) ≡ getD changed k noLine = ap h (lines-ahead w k is) ∙ sym (changed-at k l) in
-      let there = new ∙ ap (λ (i : ℕ). put w i (lineWords (h (lineRead (wordIn w) i)))) start in
-      put-line-turn changed w₀ linesAt k w x is (there ∙ ap (λ (q : Line). put w (lineStart k) (lineWords q)) one)
+      let there = new ∙ ap (λ (i : ℕ). overwritten w i (lineWords (h (lineRead (wordIn w) i)))) start in
+      overwritten-line-turn changed w₀ linesAt k w x is (there ∙ ap (λ (q : Line). overwritten w (lineStart k) (lineWords q)) one)
 
   pub lines-done :
       (w : List ℕ) (k : ℕ) (ls : List Line) → w ≡ turned k → k ≡ resources → changed ≡ ls
-      → w ≡ put w₀ linesAt (joined (λ i. lineWords (getD ls i noLine)) resources)
+      → w ≡ overwritten w₀ linesAt (joined (λ i. lineWords (getD ls i noLine)) resources)
   lines-done w k ls is e same =
-      is ∙ ap turned e ∙ ap (λ (q : List Line). put w₀ linesAt (joined (λ i. lineWords (getD q i noLine)) resources)) same
+      is ∙ ap turned e ∙ ap (λ (q : List Line). overwritten w₀ linesAt (joined (λ i. lineWords (getD q i noLine)) resources)) same
 
   -- a line that is not reached yet has at most 32 uses
   pub lines-few :

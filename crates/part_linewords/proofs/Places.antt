@@ -8,16 +8,16 @@ use native.Mathlib.Omega.{arith}
 use Rattle.spec_plain.specs.Limits.{mostUses}
 use Rattle.spec_plain.specs.declared.Use.{Use}
 use Rattle.spec_plain.specs.Plain.{noUse}
-use Rattle.part_lines.specs.Held.{lineFrom}
+use Rattle.part_lines.specs.ArrayLists.{lineFrom}
 use Rattle.part_lines.specs.Padded.{padded}
 use Rattle.part_lines.proofs.Padded.{length-padded, padded-at}
 use Rattle.base_lists.specs.Loops.{build}
 use Rattle.part_boardwords.specs.Layout.{usesIn, usesSize, lineSize, lineEnd}
 use Rattle.part_boardwords.specs.Words.{wordIn, useAt, usesRead}
-use Rattle.part_boardwords.specs.Codec.{usesWords, lineWords, put}
+use Rattle.part_boardwords.specs.Codec.{usesWords, lineWords, overwritten}
 use Rattle.base_lists.proofs.Build.{build-length, build-same, build-at, build-back}
 use Rattle.part_boardwords.proofs.Inverse.{uses-read}
-use Rattle.part_boardwords.proofs.Written.{put-is}
+use Rattle.part_boardwords.proofs.Written.{overwritten-is}
 
 -- the words of the line that holds these uses, read one by one
 line-at :
@@ -34,9 +34,9 @@ line-at x at us few count uses =
 pub line-put :
     (w x : List ℕ) (at : ℕ) (us : List Use) → length us ≤ 32 → length x ≡ length w → lineEnd at ≤ length w → wordIn x at ≡ length us
     → ((m : ℕ) → m < 32 → useAt (wordIn x) at m ≡ getD us m noUse) → ((k : ℕ) → k < at → getD x k 0 ≡ getD w k 0)
-    → ((k : ℕ) → lineEnd at ≤ k → getD x k 0 ≡ getD w k 0) → x ≡ put w at (lineWords (lineFrom us))
+    → ((k : ℕ) → lineEnd at ≤ k → getD x k 0 ≡ getD w k 0) → x ≡ overwritten w at (lineWords (lineFrom us))
 line-put w x at us few e room count uses below from =
-    put-is w x at l e (omega (arith, size)) inside below (λ k h. from k (omega (arith, size))) ∙ ap (put w at) (sym (line-at x at us few count uses))
+    overwritten-is w x at l e (omega (arith, size)) inside below (λ k h. from k (omega (arith, size))) ∙ ap (overwritten w at) (sym (line-at x at us few count uses))
   where
     f : ℕ → ℕ
     f j = wordIn x (at + usesIn + j)

@@ -11,7 +11,7 @@ use Rattle.spec_plain.specs.Limits.{resources}
 use Rattle.spec_plain.specs.declared.Use.{Use}
 use Rattle.spec_plain.specs.Plain.{inserted}
 use Rattle.part_lines.specs.declared.Line.{Line}
-use Rattle.part_lines.specs.Held.{lineOf, lineFrom, linesOf, linesFrom, noLine}
+use Rattle.part_lines.specs.ArrayLists.{lineOf, lineFrom, linesOf, linesFrom, noLine}
 use Rattle.part_lines.specs.Asked.{Short, AllShort, Ready}
 use Rattle.part_lines.proofs.Lists.{map-set, map-at, set-all}
 use Rattle.part_lines.proofs.LineLaws.{line-back, length-inserted}

@@ -14,18 +14,18 @@ use native.Mathlib.Omega.{arith}
 use Rattle.spec_plain.specs.Limits.{mostUses}
 use Rattle.spec_plain.specs.declared.Use.{Use}
 use Rattle.spec_plain.specs.Plain.{noUse, staying}
-use Rattle.part_lines.specs.Held.{lineOf, lineFrom}
+use Rattle.part_lines.specs.ArrayLists.{lineOf, lineFrom}
 use Rattle.part_lines.proofs.LeavingLaws.{few-stay, staying-append}
 use Rattle.base_lists.specs.Loops.{rewritten}
 use Rattle.part_boardwords.specs.Layout.{useSize, lineEnd, useStart}
 use Rattle.part_boardwords.specs.Words.{wordIn, useRead, useAt, usesRead, lineRead}
-use Rattle.part_boardwords.specs.Codec.{useWords, lineWords, put}
+use Rattle.part_boardwords.specs.Codec.{useWords, lineWords, overwritten}
 use Rattle.base_lists.proofs.Build.{build-length, build-at, past}
 use Rattle.part_linewords.specs.Thinned.{Thinned}
 use Rattle.part_boardwords.proofs.Parts.{use-by, use-written}
 use Rattle.part_boardwords.proofs.Boards.{held-size}
-use Rattle.part_boardwords.proofs.Put.{put-below, put-from}
-use Rattle.part_boardwords.proofs.Written.{put-at}
+use Rattle.part_boardwords.proofs.Overwritten.{overwritten-below, overwritten-from}
+use Rattle.part_boardwords.proofs.Written.{overwritten-at}
 use Rattle.part_linewords.proofs.Lines.{cleared-put}
 
 module _ (f m : ℕ) (w₀ : List ℕ) (at : ℕ) where
@@ -54,15 +54,15 @@ module _ (f m : ℕ) (w₀ : List ℕ) (at : ℕ) where
       ∙ staying-append f m (take k us) (useAt (wordIn w₀) at k ∷ [])
 
   -- the words x are w with the use v in place n
-  module _ (w x : List ℕ) (n : ℕ) (v : Use) (room : useStart at n + useSize ≤ length w) (is : x ≡ put w (useStart at n) (useWords v)) where
+  module _ (w x : List ℕ) (n : ℕ) (v : Use) (room : useStart at n + useSize ≤ length w) (is : x ≡ overwritten w (useStart at n) (useWords v)) where
     word-below : (k : ℕ) → k < useStart at n → wordIn x k ≡ wordIn w k
-    word-below k h = ap (λ (l : List ℕ). getD l k 0) is ∙ put-below w (useStart at n) (useWords v) k h
+    word-below k h = ap (λ (l : List ℕ). getD l k 0) is ∙ overwritten-below w (useStart at n) (useWords v) k h
 
     word-from : (k : ℕ) → useStart at n + useSize ≤ k → wordIn x k ≡ wordIn w k
-    word-from k h = ap (λ (l : List ℕ). getD l k 0) is ∙ put-from w (useStart at n) (useWords v) k h
+    word-from k h = ap (λ (l : List ℕ). getD l k 0) is ∙ overwritten-from w (useStart at n) (useWords v) k h
 
     word-at : (k i : ℕ) → k ≡ useStart at n + i → i < useSize → wordIn x k ≡ getD (useWords v) i 0
-    word-at k i e h = ap (λ (l : List ℕ). getD l k 0) is ∙ put-at w (useStart at n) (useWords v) k i e h room
+    word-at k i e h = ap (λ (l : List ℕ). getD l k 0) is ∙ overwritten-at w (useStart at n) (useWords v) k i e h room
 
     use-below : (i : ℕ) → i < n → useAt (wordIn x) at i ≡ useAt (wordIn w) at i
     use-below i h =
@@ -92,7 +92,7 @@ module _ (f m : ℕ) (w₀ : List ℕ) (at : ℕ) where
   pub thin-more :
       (w x : List ℕ) (n k : ℕ) (u v : Use) (c : ℕ) → lineEnd at ≤ length w → k < 32 → n ≡ length (left k) → Thinned w₀ w at k (left k)
       → u ≡ useRead (wordIn w) (useStart at k) → v ≡ getD (staying f m (u ∷ [])) 0 noUse → c ≡ length (staying f m (u ∷ []))
-      → x ≡ put w (useStart at n) (useWords v) → (n + c ≡ length (left (k + 1))) × Thinned w₀ x at (k + 1) (left (k + 1))
+      → x ≡ overwritten w (useStart at n) (useWords v) → (n + c ≡ length (left (k + 1))) × Thinned w₀ x at (k + 1) (left (k + 1))
   thin-more w x n k u v c room h size t eu ev ec is =
       let o : List Use = staying f m (u ∷ []) in
       let read : u ≡ useAt (wordIn w₀) at k =
@@ -111,7 +111,7 @@ pub stay-put :
     → n ≡ length (staying f m (lineOf (lineRead (wordIn w) at)))
     → Thinned w y at (wordIn w at) (staying f m (lineOf (lineRead (wordIn w) at)))
     → x ≡ rewritten (λ k. 0) (set y at n) (useStart at n) (lineEnd at)
-    → x ≡ put w at (lineWords (lineFrom (staying f m (lineOf (lineRead (wordIn w) at)))))
+    → x ≡ overwritten w at (lineWords (lineFrom (staying f m (lineOf (lineRead (wordIn w) at)))))
 stay-put f m w y x at n room few len size t is =
     cleared-put w (set y at n) x at n us size (omega (arith, most)) room (length-set y at n ∙ len) (getD-set-same y at n 0 (omega arith))
     (λ i h. use-by (wordIn (set y at n)) (wordIn y) (useStart at i) (useStart at i)

@@ -8,7 +8,7 @@ use native.Mathlib.Decide.{decLt}
 use native.Mathlib.Omega.{arith}
 use Rattle.spec_plain.specs.Limits.{resources}
 use Rattle.base_lists.proofs.Build.{build-length}
-use Rattle.part_lines.specs.Held.{noLine}
+use Rattle.part_lines.specs.ArrayLists.{noLine}
 use Rattle.part_boardwords.specs.Layout.{lineStart, lineEnd}
 use Rattle.part_boardwords.specs.Words.{Words, lineAt, linesRead}
 use Rattle.part_boardwords.proofs.Boards.{line-of, same-line}

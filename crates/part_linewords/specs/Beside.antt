@@ -4,7 +4,7 @@
 use Prim.Native.Nat.{ℕ, _≤_, _<_}
 use mathlib.Core.Path.{_≡_}
 use Rattle.part_lines.specs.declared.Line.{Line}
-use Rattle.part_lines.specs.Held.{lineOf, lineFrom}
+use Rattle.part_lines.specs.ArrayLists.{lineOf, lineFrom}
 use Rattle.part_boardwords.specs.Layout.{lineEnd}
 use Rattle.part_boardwords.specs.Words.{Words}
 

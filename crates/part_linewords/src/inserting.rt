@@ -4,20 +4,20 @@ ghost use Prim.Native.Nat.{_≤_, _<_};
 ghost use lib.ListN.{length};
 ghost use Rattle.spec_plain.specs.Limits.{mostPoints, mostUses};
 ghost use Rattle.spec_plain.specs.Plain.{inserted};
-ghost use Rattle.part_putwords.specs.Puts.{putsIn};
-ghost use Rattle.part_putwords.specs.ReadPuts.{ReadPuts};
-ghost use Rattle.part_lines.specs.Held.{lineOf, lineFrom, linesFrom};
+ghost use Rattle.part_allocations.specs.Allocations.{allocationsIn};
+ghost use Rattle.part_allocations.specs.ReadAllocations.{ReadAllocations};
+ghost use Rattle.part_lines.specs.ArrayLists.{lineOf, lineFrom, linesFrom};
 ghost use Rattle.part_lines.specs.Asked.{Ready};
 ghost use Rattle.part_lines.specs.Placing.{allWith, AllFit};
 ghost use Rattle.part_boardwords.specs.Layout.{linesAt, cellsAt, lineEnd};
 ghost use Rattle.part_boardwords.specs.Words.{wordIn, lineRead, linesRead, linesIn};
-ghost use Rattle.part_boardwords.specs.Codec.{linesWords, put};
+ghost use Rattle.part_boardwords.specs.Codec.{linesWords, overwritten};
 ghost use Rattle.part_linewords.specs.Beside.{Tidy, Beside};
 use part_boardwords::line_start;
 use part_boardwords::move_uses_up;
-use part_boardwords::put_use;
-use part_putwords::read_put;
-use part_putwords::used_from;
+use part_boardwords::write_use;
+use part_allocations::read_allocation;
+use part_allocations::used_from;
 use spec_plain::Use;
 
 // The line at word `at` with a use put in after `place` others. Those behind it move up by one.
@@ -29,24 +29,24 @@ fn insert(w: &mut [u32], at: usize, place: usize, u: Use)
 {
     let count = w[at];
     move_uses_up(w, at, place, count as usize);
-    put_use(w, at, place, u);
+    write_use(w, at, place, u);
     w[at] = count + 1;
 }
 
 // The uses of an offer's allocations put into their lines, which have 0 in every place not in use. It asks that none of them is stopped by 15 or 16.
-pub fn insert_all(w: &mut [u32], first: u32, puts: &[u32], many: usize)
-    requires { ⌜ (cellsAt ≤ length (now w)) × Ready (linesRead (wordIn (now w))) × ReadPuts (now puts) many × (first ≤ mostPoints) ⌝ }
-    requires { ⌜ AllFit first (linesIn (now w)) (putsIn (now puts) many) ⌝ }
-    ensures { λ _. ⌜ now (w .exit) ≡ put (now (w .entry)) linesAt (linesWords (linesFrom
-        (allWith first (linesIn (now (w .entry))) (putsIn (now (puts .entry)) many)))) ⌝ }
+pub fn insert_all(w: &mut [u32], first: u32, allocations: &[u32], many: usize)
+    requires { ⌜ (cellsAt ≤ length (now w)) × Ready (linesRead (wordIn (now w))) × ReadAllocations (now allocations) many × (first ≤ mostPoints) ⌝ }
+    requires { ⌜ AllFit first (linesIn (now w)) (allocationsIn (now allocations) many) ⌝ }
+    ensures { λ _. ⌜ now (w .exit) ≡ overwritten (now (w .entry)) linesAt (linesWords (linesFrom
+        (allWith first (linesIn (now (w .entry))) (allocationsIn (now (allocations .entry)) many)))) ⌝ }
 {
     for k in 0..many {
-        let put = read_put(puts, k);
+        let allocation = read_allocation(allocations, k);
         insert(
             w,
-            line_start(put.resource as usize),
-            put.place as usize,
-            used_from(first, put),
+            line_start(allocation.resource as usize),
+            allocation.place as usize,
+            used_from(first, allocation),
         );
     }
 }

@@ -1,5 +1,5 @@
 -- The numbers of an offer that was read from a good plant file are in range. Assumes nothing.
---   step-sized, put-sized   a step, an allocation;  offer-sized: the offer;  checked-sized: one that passes the fact check
+--   step-sized, allocation-sized   a step, an allocation;  offer-sized: the offer;  checked-sized: one that passes the fact check
 use Prim.Native.Nat.{ℕ, zero, suc, _+_, _*_, _≤_, _<_}
 use native.Mathlib.Omega.{arith}
 use mathlib.Core.Path.{_≡_}
@@ -8,7 +8,7 @@ use mathlib.Core.List.{List}
 use lib.ListN.{length, length-append}
 use Rattle.base_words.specs.Word.{word}
 use Rattle.base_rulings.specs.declared.Ruling.the-variants.{Accepted}
-use Rattle.base_rulings.proofs.Laws.{both-passed}
+use Rattle.base_rulings.proofs.RulingLaws.{both-passed}
 use Rattle.read_plant.specs.Plant.{plantRuling, trailerOf, badAction, allocationCount}
 use Rattle.read_plant.proofs.Good.{good}
 use Rattle.read_plant.proofs.Ranges.{duration-range, allocation-range}
@@ -16,9 +16,9 @@ use Rattle.read_offer.specs.Offer.{stepCount, stepStart, offerRuling, factCheck
 use Rattle.read_offer.proofs.Steps.{read-of}
 use Rattle.base_lists.specs.All.{All}
 use Rattle.base_lists.proofs.All.{all-append}
-use Rattle.spec_rulebook.specs.Reading.{recordOf, stepOf, putOf, stepsFrom, putsOfStep, putsFrom, offerOf}
-use Rattle.part_offered.specs.Sized.{SizedStep, SizedPut, SizedOffer}
-use Rattle.part_offered.proofs.Laws.{length-steps, length-step-puts}
+use Rattle.spec_rulebook.specs.Reading.{recordOf, stepOf, allocationOf, stepsFrom, allocationsOfStep, allocationsFrom, offerOf}
+use Rattle.part_offered.specs.Sized.{SizedStep, SizedAllocation, SizedOffer}
+use Rattle.part_offered.proofs.StepLaws.{length-steps, length-step-allocations}
 
 module _ (p o : List ℕ) (ok : plantRuling p ≡ Accepted) (read : offerRuling p o ≡ Accepted) where
   known : (k : ℕ) → k < stepCount o → word o (stepStart p o k) < trailerOf p .count
@@ -41,9 +41,9 @@ module _ (p o : List ℕ) (ok : plantRuling p ≡ Accepted) (read : offerRuling 
   steps-sized zero k le = tt
   steps-sized (suc n) k le = (step-sized k (omega arith), steps-sized n (k + 1) (omega arith))
 
-  put-sized : (k j : ℕ) → k < stepCount o → j < allocationCount p (recordOf p o k) → SizedPut (stepCount o) (putOf p o k j)
-  unfolding putOf
-  put-sized k j h l =
+  allocation-sized : (k j : ℕ) → k < stepCount o → j < allocationCount p (recordOf p o k) → SizedAllocation (stepCount o) (allocationOf p o k j)
+  unfolding allocationOf
+  allocation-sized k j h l =
       let r = allocation-range p (recordOf p o k) j (in-range k h) l in
       let few = read-of p o read .few in
       record {
@@ -52,21 +52,21 @@ module _ (p o : List ℕ) (ok : plantRuling p ≡ Accepted) (read : offerRuling 
         some = r .some;
       }
 
-  step-puts-sized : (k : ℕ) → k < stepCount o → (n j : ℕ) → j + n ≤ allocationCount p (recordOf p o k) → All (SizedPut (stepCount o)) (putsOfStep p o k j n)
-  unfolding putsOfStep
-  step-puts-sized k h zero j le = tt
-  step-puts-sized k h (suc n) j le = (put-sized k j h (omega arith), step-puts-sized k h n (j + 1) (omega arith))
+  step-allocations-sized : (k : ℕ) → k < stepCount o → (n j : ℕ) → j + n ≤ allocationCount p (recordOf p o k) → All (SizedAllocation (stepCount o)) (allocationsOfStep p o k j n)
+  unfolding allocationsOfStep
+  step-allocations-sized k h zero j le = tt
+  step-allocations-sized k h (suc n) j le = (allocation-sized k j h (omega arith), step-allocations-sized k h n (j + 1) (omega arith))
 
-  puts-sized : (n k : ℕ) → k + n ≤ stepCount o → All (SizedPut (stepCount o)) (putsFrom p o k n) × (length (putsFrom p o k n) ≤ 4 * n)
-  unfolding putsFrom
+  puts-sized : (n k : ℕ) → k + n ≤ stepCount o → All (SizedAllocation (stepCount o)) (allocationsFrom p o k n) × (length (allocationsFrom p o k n) ≤ 4 * n)
+  unfolding allocationsFrom
   puts-sized zero k le = (tt, omega arith)
   puts-sized (suc n) k le =
       let here = allocationCount p (recordOf p o k) in
       let rest = puts-sized n (k + 1) (omega arith) in
-      let size = length-append (putsOfStep p o k 0 here) (putsFrom p o (k + 1) n) in (
-        all-append (SizedPut (stepCount o)) (putsOfStep p o k 0 here) (putsFrom p o (k + 1) n)
-            (step-puts-sized k (omega arith) here 0 (omega arith)) (rest .0),
-        omega (arith, size, length-step-puts p o k 0 here, few-allocations k (omega arith), rest .1),
+      let size = length-append (allocationsOfStep p o k 0 here) (allocationsFrom p o (k + 1) n) in (
+        all-append (SizedAllocation (stepCount o)) (allocationsOfStep p o k 0 here) (allocationsFrom p o (k + 1) n)
+            (step-allocations-sized k (omega arith) here 0 (omega arith)) (rest .0),
+        omega (arith, size, length-step-allocations p o k 0 here, few-allocations k (omega arith), rest .1),
       )
 
   pub offer-sized : SizedOffer (offerOf p o)
@@ -75,13 +75,13 @@ module _ (p o : List ℕ) (ok : plantRuling p ≡ Accepted) (read : offerRuling 
       let n = stepCount o in
       let size = length-steps p o 0 n in
       let r = read-of p o read in
-      let puts = puts-sized n 0 (omega arith) in
+      let allocations = puts-sized n 0 (omega arith) in
       record {
         some = omega (arith, size, r .some);
         few = omega (arith, size, r .few);
         steps = steps-sized n 0 (omega arith);
-        puts = rw size (puts .0);
-        count = omega (arith, puts .1, r .few);
+        allocations = rw size (allocations .0);
+        count = omega (arith, allocations .1, r .few);
       }
 
 -- the fact check passes 1 to 4 and 7 to 9 on its way

@@ -1,2 +1,2 @@
-pub mod Held
+pub mod StepArray
 pub mod Sized

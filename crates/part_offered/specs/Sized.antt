@@ -1,11 +1,11 @@
 -- What holds of an offer that was read from a good plant file: its numbers are in range.
---   SizedStep, SizedPut   what holds of a step, of an allocation
+--   SizedStep, SizedAllocation   what holds of a step, of an allocation
 --   SizedOffer            what holds of the offer
 use Prim.Native.Nat.{ℕ, _≤_, _<_}
 use lib.ListN.{length}
-use Rattle.spec_plain.specs.Limits.{mostSteps, mostPuts}
+use Rattle.spec_plain.specs.Limits.{mostSteps, mostAllocations}
 use Rattle.spec_plain.specs.declared.Step.{Step}
-use Rattle.spec_plain.specs.declared.Put.{Put}
+use Rattle.spec_plain.specs.declared.Allocation.{Allocation}
 use Rattle.spec_plain.specs.Plain.{Offer}
 use Rattle.base_lists.specs.All.{All}
 use Rattle.part_lines.specs.Asked.{Readable}
@@ -15,7 +15,7 @@ pub record SizedStep (s : Step) : Type 0 where
   pub longest : s .longest ≤ 1000000
 
 -- an allocation of one of the first n steps: what the code asks of it, and that it has a length
-pub record SizedPut (n : ℕ) (p : Put) : Type 0 where
+pub record SizedAllocation (n : ℕ) (p : Allocation) : Type 0 where
   pub readable : Readable p
   pub step : p .step < n
   pub some : 1 ≤ p .length
@@ -24,6 +24,6 @@ pub record SizedOffer (o : Offer) : Type 0 where
   pub some : 1 ≤ length (o .steps)
   pub few : length (o .steps) ≤ mostSteps
   pub steps : All SizedStep (o .steps)
-  pub puts : All (SizedPut (length (o .steps))) (o .puts)
+  pub allocations : All (SizedAllocation (length (o .steps))) (o .allocations)
   -- 8 steps of at most 4 allocations
-  pub count : length (o .puts) ≤ mostPuts
+  pub count : length (o .allocations) ≤ mostAllocations

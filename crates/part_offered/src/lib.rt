@@ -1,15 +1,15 @@
 // The offer as the plain machine takes it: the durations of its steps, and its allocations with their places, copied out of the bytes of
 // a good plant file and a good offer. It rules on nothing. It may use the readers (base_words, base_rulings, read_plant, read_offer), spec_plain,
-// the rule book's definition of what an offer says, the array of steps (part_lines), allocations as words (part_putwords) and base_lists.
+// the rule book's definition of what an offer says, the array of steps (part_lines), allocations as words (part_allocations) and base_lists.
 use base_words::byte_at;
 use base_words::offset_at;
 use base_words::u32_at;
 use part_lines::Steps;
-use part_putwords::push_put;
+use part_allocations::push_allocation;
 use read_plant::Trailer;
 use read_plant::allocation_count;
 use read_plant::start_of;
-use spec_plain::Put;
+use spec_plain::Allocation;
 use spec_plain::Step;
 use spec_plain::limits;
 ghost use mathlib.Core.Path.{_≡_};
@@ -19,10 +19,10 @@ ghost use lib.ListN.{length};
 ghost use Rattle.base_rulings.specs.declared.Ruling.the-variants.{Accepted};
 ghost use Rattle.read_plant.specs.Plant.{plantRuling, trailerOf, shortest, longest};
 ghost use Rattle.read_offer.specs.Offer.{offerRuling, stepStart};
-ghost use Rattle.spec_rulebook.specs.Reading.{recordOf, putOf, putsOfStep, offerOf};
-ghost use Rattle.part_lines.specs.Held.{noStep};
-ghost use Rattle.part_putwords.specs.Puts.{putsIn, putSize, putsSize};
-ghost use Rattle.part_offered.specs.Held.{stepsHeld};
+ghost use Rattle.spec_rulebook.specs.Reading.{recordOf, allocationOf, allocationsOfStep, offerOf};
+ghost use Rattle.part_lines.specs.ArrayLists.{noStep};
+ghost use Rattle.part_allocations.specs.Allocations.{allocationsIn, allocationSize, allocationsSize};
+ghost use Rattle.part_offered.specs.StepArray.{stepsHeld};
 
 fn no_step() -> Step
     ensures { λ r. ⌜ r ≡ noStep ⌝ }
@@ -67,13 +67,13 @@ pub fn read_durations(plant: &[u8], t: Trailer, offer: &[u8]) -> Steps
 }
 
 // Allocation j of a step, whose action's record starts at `start` and whose bytes in the offer start at `at`.
-fn put_at(plant: &[u8], offer: &[u8], step: u32, start: usize, at: usize, j: usize) -> Put
+fn allocation_at(plant: &[u8], offer: &[u8], step: u32, start: usize, at: usize, j: usize) -> Allocation
     requires { ⌜ (start ≡ recordOf (now plant) (now offer) step) × (at ≡ stepStart (now plant) (now offer) step) ⌝ }
     requires { ⌜ (start + 28 + 12 * j + 12 ≤ length (now plant)) × (at + 4 + 4 * j + 4 ≤ length (now offer)) ⌝ }
-    ensures { λ r. ⌜ r ≡ putOf (now (plant .entry)) (now (offer .entry)) step j ⌝ }
+    ensures { λ r. ⌜ r ≡ allocationOf (now (plant .entry)) (now (offer .entry)) step j ⌝ }
 {
     let from = start + 28 + 12 * j;
-    Put {
+    Allocation {
         resource: u32_at(plant, from),
         place: u32_at(offer, at + 4 + 4 * j),
         step,
@@ -90,22 +90,22 @@ fn push_step(
     start: usize,
     at: usize,
     n: usize,
-    puts: &mut [u32],
+    allocations: &mut [u32],
     many: usize,
 )
     requires { ⌜ (start ≡ recordOf (now plant) (now offer) k) × (at ≡ stepStart (now plant) (now offer) k) ⌝ }
-    requires { ⌜ (start + 28 + 12 * n ≤ length (now plant)) × (at + 4 + 4 * n ≤ length (now offer)) × (putSize * (many + n) ≤ length (now puts)) ⌝ }
-    ensures { λ _. ⌜ putsIn (now (puts .exit)) (many + n) ≡ putsIn (now (puts .entry)) many ++ putsOfStep (now (plant .entry)) (now (offer .entry)) k 0 n ⌝ }
+    requires { ⌜ (start + 28 + 12 * n ≤ length (now plant)) × (at + 4 + 4 * n ≤ length (now offer)) × (allocationSize * (many + n) ≤ length (now allocations)) ⌝ }
+    ensures { λ _. ⌜ allocationsIn (now (allocations .exit)) (many + n) ≡ allocationsIn (now (allocations .entry)) many ++ allocationsOfStep (now (plant .entry)) (now (offer .entry)) k 0 n ⌝ }
 {
     for j in 0..n {
-        push_put(puts, many + j, put_at(plant, offer, k, start, at, j));
+        push_allocation(allocations, many + j, allocation_at(plant, offer, k, start, at, j));
     }
 }
 
 // The allocations of the offer, step by step, into words that hold as many as an offer may have.
-pub fn read_puts(plant: &[u8], t: Trailer, offer: &[u8], puts: &mut [u32]) -> usize
-    requires { ⌜ (plantRuling (now plant) ≡ Accepted) × (t ≡ trailerOf (now plant)) × (offerRuling (now plant) (now offer) ≡ Accepted) × (putsSize ≤ length (now puts)) ⌝ }
-    ensures { λ r. ⌜ putsIn (now (puts .exit)) r ≡ offerOf (now (plant .entry)) (now (offer .entry)) .puts ⌝ }
+pub fn read_allocations(plant: &[u8], t: Trailer, offer: &[u8], allocations: &mut [u32]) -> usize
+    requires { ⌜ (plantRuling (now plant) ≡ Accepted) × (t ≡ trailerOf (now plant)) × (offerRuling (now plant) (now offer) ≡ Accepted) × (allocationsSize ≤ length (now allocations)) ⌝ }
+    ensures { λ r. ⌜ allocationsIn (now (allocations .exit)) r ≡ offerOf (now (plant .entry)) (now (offer .entry)) .allocations ⌝ }
 {
     let count = u32_at(offer, 20);
     let mut many = 0;
@@ -115,7 +115,7 @@ pub fn read_puts(plant: &[u8], t: Trailer, offer: &[u8], puts: &mut [u32]) -> us
         let action = u32_at(offer, at);
         let start = start_of(plant, t, action);
         let n = allocation_count(plant, t, action);
-        push_step(plant, offer, k, start, at, n, puts, many);
+        push_step(plant, offer, k, start, at, n, allocations, many);
         many += n;
         at = at + 4 + 4 * n;
         k += 1;

@@ -16,7 +16,7 @@ use Rattle.spec_plain.specs.Limits.{side, cellCount}
 use Rattle.spec_plain.specs.declared.Rule.{Rule}
 use Rattle.base_lists.specs.Loops.{rewritten}
 use Rattle.base_lists.proofs.Rewritten.{rewritten-length, rewritten-in, rewritten-from, rewritten-is}
-use Rattle.spec_stn.specs.Table.{bias, Closed, Agrees, agrees}
+use Rattle.spec_stn.specs.Table.{bias, Closed, IsConsistent, isConsistent}
 use Rattle.part_gaps.specs.Cells.{cell, tableOf, added, Usable}
 use Rattle.part_gaps.proofs.Added.{added-length, added-closed, added-past}
 use Rattle.part_settling.specs.Settled.{AllUsable, addedAll, outcome}
@@ -59,15 +59,15 @@ module _ {l : List ℕ} {n : ℕ} {rs : List Rule} {t : List ℕ} {left : List R
     same-here : addedAll (r ∷ rest) n t ≡ addedAll rs n l
     same-here = subst (λ (x : List Rule). addedAll x n t ≡ addedAll rs n l) e (s .same)
 
-    pub stops : (m : List ℕ) → agrees r (tableOf t) ≡ false → outcome false m ≡ addedAll rs n l
+    pub stops : (m : List ℕ) → isConsistent r (tableOf t) ≡ false → outcome false m ≡ addedAll rs n l
     unfolding addedAll outcome
     stops m f = sym (rw (addedAll, f)) ∙ same-here
 
-    pub agree : agrees r (tableOf t) ≡ true → Agrees r (tableOf t)
-    unfolding Agrees
+    pub agree : isConsistent r (tableOf t) ≡ true → IsConsistent r (tableOf t)
+    unfolding IsConsistent
     agree f = leb-true _ _ f
 
-    pub goes-on : n ≤ side → (m : List ℕ) → agrees r (tableOf t) ≡ true → m ≡ added t n r → Adding l n rs m rest
+    pub goes-on : n ≤ side → (m : List ℕ) → isConsistent r (tableOf t) ≡ true → m ≡ added t n r → Adding l n rs m rest
     unfolding addedAll
     goes-on h m f q =
         subst (λ (x : List ℕ). Adding l n rs x rest) (sym q)

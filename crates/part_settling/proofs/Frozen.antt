@@ -18,7 +18,7 @@ use Rattle.spec_plain.specs.declared.Job.{Job}
 use Rattle.spec_plain.specs.declared.Rule.{Rule}
 use Rattle.spec_plain.specs.Plain.{notBefore, notAfter, freeze, range, unsentPoints}
 use Rattle.spec_plain.proofs.Points.{Below}
-use Rattle.spec_stn.specs.Table.{bias, Closed, Agrees, add, earliest}
+use Rattle.spec_stn.specs.Table.{bias, Closed, IsConsistent, add, earliest}
 use Rattle.part_gaps.specs.Cells.{cell, tableOf, added, Usable}
 use Rattle.part_gaps.proofs.Added.{added-length, added-agree, added-closed, added-known}
 use Rattle.part_settling.specs.Settled.{addedEach}
@@ -37,8 +37,8 @@ module _ (n : ℕ) (few : n ≤ side) where
     unfolding earliest
     at-floor = omega (arith, e, cl .floor x h)
 
-    point-agrees : Agrees (notAfter x v) (tableOf l)
-    unfolding Agrees notAfter
+    point-agrees : IsConsistent (notAfter x v) (tableOf l)
+    unfolding IsConsistent notAfter
     point-agrees = omega (arith, at-floor)
 
     point-usable : Usable n (notAfter x v)
@@ -63,7 +63,7 @@ module _ (n : ℕ) (few : n ≤ side) where
 
     module _ (r : Rule) (er : r ≡ notAfter x v) where
       -- what adding the rule asks
-      pub asked : ((length l ≡ cellCount) × (n ≤ side) × Usable n r) × (Closed n (tableOf l) × Agrees r (tableOf l))
+      pub asked : ((length l ≡ cellCount) × (n ≤ side) × Usable n r) × (Closed n (tableOf l) × IsConsistent r (tableOf l))
       asked = rw er ((size, few, point-usable), (cl, point-agrees))
 
       pub frozen-one : (m : List ℕ) → m ≡ added l n r → m ≡ frozen n (x ∷ []) l

@@ -9,7 +9,7 @@ use mathlib.Core.List.{List, [], _∷_}
 use mathlib.Core.Option.{Option, some, none}
 use Rattle.spec_plain.specs.declared.Rule.{Rule}
 use Rattle.base_lists.specs.All.{All}
-use Rattle.spec_stn.specs.Table.{agrees}
+use Rattle.spec_stn.specs.Table.{isConsistent}
 use Rattle.part_gaps.specs.Cells.{tableOf, added, Usable}
 
 abbrev pub AllUsable : ℕ → List Rule → Type 0
@@ -17,7 +17,7 @@ AllUsable n rs = All (Usable n) rs
 
 unfoldable pub addedAll : List Rule → ℕ → List ℕ → Option (List ℕ)
 addedAll [] n l = some l
-addedAll (r ∷ rs) n l = elim (agrees r (tableOf l)) [ true ↦ addedAll rs n (added l n r) | false ↦ none ]
+addedAll (r ∷ rs) n l = elim (isConsistent r (tableOf l)) [ true ↦ addedAll rs n (added l n r) | false ↦ none ]
 
 unfoldable pub addedEach : List Rule → ℕ → List ℕ → List ℕ
 addedEach [] n l = l

@@ -11,7 +11,7 @@ ghost use Prim.Native.Nat.{suc, _+_, _≤_, _<_};
 ghost use lib.ListN.{length};
 ghost use Rattle.spec_plain.specs.Limits.{side, cellCount};
 ghost use Rattle.spec_plain.specs.Plain.{total, notAfter, range, unsentPoints};
-ghost use Rattle.part_lines.specs.Held.{jobsOf};
+ghost use Rattle.part_lines.specs.ArrayLists.{jobsOf};
 ghost use Rattle.part_lines.specs.Asked.{Sized};
 ghost use Rattle.spec_stn.specs.Table.{Closed};
 ghost use Rattle.part_gaps.specs.Cells.{tableOf};

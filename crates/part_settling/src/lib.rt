@@ -6,13 +6,13 @@ pub use freezing::freeze;
 use part_gaps::FEW_POINTS;
 use part_gaps::FEWEST_POINTS;
 use part_gaps::add;
-use part_gaps::agrees;
+use part_gaps::is_consistent;
 use part_gaps::cells_of;
 use part_gaps::copy_cells;
 use part_gaps::few_cells;
 use part_gaps::fewest_cells;
 use part_gaps::grow;
-use part_gaps::implies;
+use part_gaps::entails;
 use part_lines::Rules;
 use spec_plain::Rule;
 use spec_plain::limits;
@@ -22,18 +22,18 @@ ghost use Prim.Native.Nat.{ℕ, _+_, _*_, _≤_, _<_};
 ghost use lib.ListN.{length, getD};
 ghost use Rattle.spec_plain.specs.Limits.{side, cellCount};
 ghost use Rattle.base_lists.specs.Loops.{rewritten};
-ghost use Rattle.part_lines.specs.Held.{rulesOf, mostRules};
-ghost use Rattle.spec_stn.specs.Table.{bias, Closed, Agrees};
+ghost use Rattle.part_lines.specs.ArrayLists.{rulesOf, mostRules};
+ghost use Rattle.spec_stn.specs.Table.{bias, Closed, IsConsistent};
 ghost use Rattle.part_gaps.specs.Cells.{tableOf, added, grown, Usable};
 ghost use Rattle.part_settling.specs.Settled.{AllUsable, addedAll, outcome};
 
 // The rule added to a table of n points that it agrees with. A rule that every timetable keeps already changes no cell.
 fn add_new(t: &mut [u32], n: usize, rule: Rule)
     requires { ⌜ (length (now t) ≡ cellCount) × (n ≤ side) × Usable n rule ⌝ }
-    requires { ⌜ Closed n (tableOf (now t)) × Agrees rule (tableOf (now t)) ⌝ }
+    requires { ⌜ Closed n (tableOf (now t)) × IsConsistent rule (tableOf (now t)) ⌝ }
     ensures { λ _. ⌜ now (t .exit) ≡ added (now (t .entry)) n rule ⌝ }
 {
-    if implies(t, rule) {
+    if entails(t, rule) {
         return;
     }
     add(t, n, rule);
@@ -50,7 +50,7 @@ fn add_all(t: &mut [u32], n: usize, rules: Rules) -> bool
     let mut k = 0;
     while k < rules.count {
         let rule = rules.rules[k];
-        if !agrees(t, rule) {
+        if !is_consistent(t, rule) {
             return false;
         }
         add_new(t, n, rule);

@@ -17,7 +17,7 @@ use Rattle.spec_plain.specs.Limits.{resources, mostUses}
 use Rattle.spec_plain.specs.declared.Use.{Use}
 use Rattle.spec_plain.specs.Plain.{noUse}
 use Rattle.part_lines.specs.declared.Line.{Line}
-use Rattle.part_lines.specs.Held.{lineOf, noLine}
+use Rattle.part_lines.specs.ArrayLists.{lineOf, noLine}
 use Rattle.part_lines.proofs.Lists.{held-next, held-over}
 use Rattle.base_lists.specs.Loops.{allBelow}
 use Rattle.part_boardwords.specs.Layout.{boardSize}

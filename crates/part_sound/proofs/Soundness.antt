@@ -23,7 +23,7 @@ use Rattle.part_lines.specs.declared.Jobs.{Jobs}
 use Rattle.spec_plain.specs.declared.Use.{Use}
 use Rattle.part_lines.specs.declared.Line.{Line}
 use Rattle.spec_plain.specs.Plain.{total}
-use Rattle.part_lines.specs.Held.{jobsOf, lineOf, noLine}
+use Rattle.part_lines.specs.ArrayLists.{jobsOf, lineOf, noLine}
 use Rattle.part_lines.specs.Asked.{Sized}
 use Rattle.base_lists.specs.All.{All}
 use Rattle.base_lists.proofs.All.{all-at, all-from, all-map}

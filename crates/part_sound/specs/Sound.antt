@@ -26,7 +26,7 @@ use Rattle.spec_plain.specs.declared.Use.{Use}
 use Rattle.part_lines.specs.declared.Line.{Line}
 use Rattle.spec_plain.specs.Plain.{total}
 pub use Rattle.spec_plain.specs.Sent.{NoneSent, SentFirst}
-use Rattle.part_lines.specs.Held.{jobsOf, lineOf, noLine}
+use Rattle.part_lines.specs.ArrayLists.{jobsOf, lineOf, noLine}
 use Rattle.base_lists.specs.All.{All}
 use Rattle.base_lists.specs.Loops.{allBelow}
 use Rattle.spec_stn.specs.Table.{bias}

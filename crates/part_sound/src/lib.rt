@@ -25,7 +25,7 @@ ghost use Prim.Native.Nat.{_≤_};
 ghost use lib.ListN.{length};
 ghost use Rattle.spec_plain.specs.Limits.{cellCount};
 ghost use Rattle.spec_plain.specs.Plain.{total};
-ghost use Rattle.part_lines.specs.Held.{jobsOf};
+ghost use Rattle.part_lines.specs.ArrayLists.{jobsOf};
 ghost use Rattle.part_boardwords.specs.Layout.{clockAt, cellsAt, boardSize};
 ghost use Rattle.part_boardwords.specs.Words.{wordIn, settingsRead, heldJobs, frameRead, boardIn, lentBoard};
 ghost use Rattle.part_sound.specs.Sound.{sizedNumbers, sizedJobs, clausesKept, sound};

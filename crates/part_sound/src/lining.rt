@@ -7,7 +7,7 @@ ghost use mathlib.Core.Path.{_≡_};
 ghost use Prim.Native.Nat.{_≤_};
 ghost use lib.ListN.{length};
 ghost use Rattle.spec_plain.specs.Limits.{mostUses};
-ghost use Rattle.part_lines.specs.Held.{lineOf};
+ghost use Rattle.part_lines.specs.ArrayLists.{lineOf};
 ghost use Rattle.part_boardwords.specs.Layout.{cellsAt, lineEnd};
 ghost use Rattle.part_boardwords.specs.Words.{wordIn, lineRead, linesRead};
 ghost use Rattle.part_sound.specs.Sound.{allOf, sizedUse, sizedLine};

@@ -11,7 +11,7 @@ ghost use lib.ListN.{length};
 ghost use lib.Dec.{eqb};
 ghost use Rattle.spec_plain.specs.Limits.{mostJobs, side, cellCount};
 ghost use Rattle.spec_stn.specs.Table.{bias};
-ghost use Rattle.part_lines.specs.Held.{jobsOf};
+ghost use Rattle.part_lines.specs.ArrayLists.{jobsOf};
 ghost use Rattle.part_lines.specs.Asked.{Sized};
 ghost use Rattle.part_boardwords.specs.Layout.{countAt, cellsAt};
 ghost use Rattle.part_boardwords.specs.Words.{wordIn, heldJobs};

@@ -8,7 +8,7 @@ ghost use mathlib.Core.Bool.{true};
 ghost use Prim.Native.Nat.{_≤_};
 ghost use lib.ListN.{length};
 ghost use Rattle.spec_plain.specs.Limits.{mostJobs};
-ghost use Rattle.part_lines.specs.Held.{jobsOf};
+ghost use Rattle.part_lines.specs.ArrayLists.{jobsOf};
 ghost use Rattle.part_boardwords.specs.Layout.{countAt, cellsAt};
 ghost use Rattle.part_boardwords.specs.Words.{wordIn, heldJobs};
 ghost use Rattle.part_sound.specs.Sound.{allOf, sizedSettings, sizedNumbers, sizedJob};

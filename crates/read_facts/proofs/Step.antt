@@ -10,12 +10,12 @@ use Prim.Native.Nat.{ℕ}
 use mathlib.Core.Path.{_≡_, refl, sym, ap₂, _∙_}
 use mathlib.Core.Bool.{Bool, true, false, not, _&&_}
 use Rattle.base_masks.specs.Mask.{has, share, join, strike}
-use Rattle.base_masks.proofs.Laws.{has-join, has-strike, share-false, apart}
-use Rattle.base_rulings.proofs.Laws.{neither}
+use Rattle.base_masks.proofs.MaskLaws.{has-join, has-strike, share-false, apart}
+use Rattle.base_rulings.proofs.RulingLaws.{neither}
 use Rattle.read_facts.specs.declared.Literals.{Literals}
 use Rattle.read_facts.specs.declared.Action.{Action}
 use Rattle.read_facts.specs.Regression.{undoes, regressed}
-use Rattle.read_facts.specs.Forward.{State, Holds, after}
+use Rattle.read_facts.specs.Forward.{FullState, Holds, after}
 use Rattle.read_facts.proofs.Bools.{clash, or-left, or-right, or-cases, and-not}
 
 -- ---- a fact of the mask `join (strike x m) n`: struck from x what m has, then n added
@@ -35,7 +35,7 @@ join-right a b k p = has-join a b k ∙ or-right (has a k) (has b k) p
 pub join-cases : {A : Type 0} (a b k : ℕ) → has (join a b) k ≡ true → (has a k ≡ true → A) → (has b k ≡ true → A) → A
 join-cases a b k e f g = or-cases (has a k) (has b k) (sym (has-join a b k) ∙ e) f g
 
-module _ (a : Action) (σ : State) where
+module _ (a : Action) (σ : FullState) where
   after-true : (k : ℕ) → has (a .makes .pos) k ≡ true → after a σ k ≡ true
   unfolding after
   after-true k p = rw p
@@ -104,5 +104,5 @@ module _ (a : Action) (σ : State) where
       not-made k p m true e = share-false (a .makes .pos) (a .makes .neg) fair k e m
       not-made k p m false e = clash (h .0 k p) (after-false k e m)
 
-pub no-clash : (l : Literals) (σ : State) → Holds l σ → share (l .pos) (l .neg) ≡ false
+pub no-clash : (l : Literals) (σ : FullState) → Holds l σ → share (l .pos) (l .neg) ≡ false
 no-clash l σ h = apart (l .pos) (l .neg) (λ k p q. clash (h .0 k p) (h .1 k q))

@@ -15,17 +15,17 @@ use mathlib.Core.Bool.{Bool, true, false, cond, not}
 use lib.Dec.{eqb}
 use borrow.Author.Tests.{eqb-true}
 use Rattle.base_masks.specs.Mask.{has, share, strike, lowest}
-use Rattle.base_masks.proofs.Laws.{share-false, no-fact, zero-none}
+use Rattle.base_masks.proofs.MaskLaws.{share-false, no-fact, zero-none}
 use Rattle.base_rulings.specs.declared.Cause.{Cause}
 use Rattle.base_rulings.specs.declared.Ruling.the-variants.{Accepted, Refused}
 use Rattle.base_rulings.specs.Answer.{cause, refused}
-use Rattle.base_rulings.proofs.Laws.{refused-no}
+use Rattle.base_rulings.proofs.RulingLaws.{refused-no}
 use Rattle.read_facts.specs.declared.Literals.{Literals}
 use Rattle.read_facts.specs.declared.Action.{Action}
 use Rattle.read_facts.specs.declared.Need.{Need}
 use Rattle.read_facts.specs.declared.Need.the-variants.{Facts, Clash}
 use Rattle.read_facts.specs.Regression.{undoes, regressed, backOver, thenBack, workBack, lacking, atStart, onNeed, factRuling}
-use Rattle.read_facts.specs.Forward.{State, Holds, after, Runs, AllRun}
+use Rattle.read_facts.specs.Forward.{FullState, Holds, after, RunsThrough, AllRun}
 use Rattle.read_facts.proofs.Bools.{clash, not-so}
 use Rattle.read_facts.proofs.Step.{in-strike, of-strike, join-left, join-right, join-cases, forward, backward, undone, no-clash}
 
@@ -36,8 +36,8 @@ Fair (a ∷ rest) = (share (a .makes .pos) (a .makes .neg) ≡ false) × Fair re
 
 -- what the answer of the regression says of every state
 abbrev pub Meaning : List Action → Literals → Need → Type 0
-Meaning chain goal (Facts l) = (σ : State) → (Holds l σ → Runs chain goal σ) × (Runs chain goal σ → Holds l σ)
-Meaning chain goal (Clash c) = (σ : State) → Runs chain goal σ → ⊥
+Meaning chain goal (Facts l) = (σ : FullState) → (Holds l σ → RunsThrough chain goal σ) × (RunsThrough chain goal σ → Holds l σ)
+Meaning chain goal (Clash c) = (σ : FullState) → RunsThrough chain goal σ → ⊥
 
 module _ (a : Action) (rest : List Action) (goal : Literals) (k : ℕ) (fair : share (a .makes .pos) (a .makes .neg) ≡ false) where
   one-more : (l : Literals) → Meaning rest goal (Facts l) → Meaning (a ∷ rest) goal (backOver a k l)
@@ -64,10 +64,10 @@ meaning (a ∷ rest) goal k fair = one-more-of a rest goal k (fair .0) (workBack
 
 -- ---- two states that fit: all else is false in the one, and true in the other
 
-unfoldable pub least : Literals → State
+unfoldable pub least : Literals → FullState
 least l k = has (l .pos) k
 
-unfoldable pub most : Literals → State
+unfoldable pub most : Literals → FullState
 most l k = not (has (l .neg) k)
 
 pub least-holds : (l : Literals) → share (l .pos) (l .neg) ≡ false → Holds l (least l)
@@ -106,7 +106,7 @@ lacks-nothing x c e = go (eqb x 0) refl e
     go false p q = absurd (refused-no c q)
 
 module _ (known : Literals) where
-  known-enough : (l : Literals) → atStart known l ≡ Accepted → (σ : State) → Holds known σ → Holds l σ
+  known-enough : (l : Literals) → atStart known l ≡ Accepted → (σ : FullState) → Holds known σ → Holds l σ
   unfolding atStart
   known-enough l e σ h =
       let z = lacks-nothing (lacking known l) _ e in (
@@ -153,7 +153,7 @@ module _ (known : Literals) where
 
 -- ---- a goal with a fact both ways
 
-clash-ends-not : (chain : List Action) (goal : Literals) (σ : State) → Runs chain goal σ → share (goal .pos) (goal .neg) ≡ false
+clash-ends-not : (chain : List Action) (goal : Literals) (σ : FullState) → RunsThrough chain goal σ → share (goal .pos) (goal .neg) ≡ false
 clash-ends-not [] goal σ r = no-clash goal σ r
 clash-ends-not (a ∷ rest) goal σ r = clash-ends-not rest goal (after a σ) (r .1)
 

@@ -13,7 +13,7 @@ use mathlib.Core.Bool.{Bool, true, false, cond, not}
 use lib.Dec.{eqb}
 use borrow.Author.Tests.{eqb-false}
 use Rattle.base_masks.specs.Mask.{has, share, lowest}
-use Rattle.base_masks.proofs.Laws.{lowest-has, lowest-least, join-lt, strike-lt}
+use Rattle.base_masks.proofs.MaskLaws.{lowest-has, lowest-least, join-lt, strike-lt}
 use Rattle.base_rulings.specs.declared.Ruling.the-variants.{Accepted}
 use Rattle.base_rulings.specs.Answer.{cause, refused}
 use Rattle.read_facts.specs.declared.Literals.{Literals}
@@ -21,7 +21,7 @@ use Rattle.read_facts.specs.declared.Action.{Action}
 use Rattle.read_facts.specs.declared.Need.{Need}
 use Rattle.read_facts.specs.declared.Need.the-variants.{Facts, Clash}
 use Rattle.read_facts.specs.Regression.{undoes, regressed, backOver, thenBack, workBack, lacking, atStart, onNeed, factRuling}
-use Rattle.read_facts.specs.Forward.{State, Runs, Lacks}
+use Rattle.read_facts.specs.Forward.{FullState, RunsThrough, Lacks}
 use Rattle.read_facts.proofs.Bools.{clash}
 use Rattle.read_facts.proofs.Theorem.{Fair, Meaning, meaning, least, most, least-holds, most-holds, lacks-cases, lacks-true, lacks-false}
 
@@ -79,13 +79,13 @@ module _ (known goal : Literals) (chain : List Action) where
     -- no lower fact is
     pub lowest-lacking : (j : ℕ) → j < k → Lacks known chain goal j → ⊥
     -- and it is for this fact's sake: some full state runs through the chain to the goal
-    pub some-run : (σ : State) × Runs chain goal σ
+    pub some-run : (σ : FullState) × RunsThrough chain goal σ
 
   module _ (l : Literals) (m : Meaning chain goal (Facts l)) (s : share (l .pos) (l .neg) ≡ false) where
-    least-runs : Runs chain goal (least l)
+    least-runs : RunsThrough chain goal (least l)
     least-runs = m (least l) .0 (least-holds l s)
 
-    most-runs : Runs chain goal (most l)
+    most-runs : RunsThrough chain goal (most l)
     most-runs = m (most l) .0 (most-holds l s)
 
     -- a fact that is lacking is needed and not known so

@@ -1,9 +1,9 @@
 -- "Against this stands the definition, for offers past refusal 10: run forward from every full state that fits the known
 -- facts, each step's needs hold and the goal holds at the end." It says nothing of masks worked back: it goes fact by fact.
---   State              a full state: of every fact, whether it is true
+--   FullState          a full state: of every fact, whether it is true
 --   Holds l σ          the facts of l are as l says in the state σ
 --   after a σ          the state that action a leaves
---   Runs chain goal σ  from σ each step's needs hold when it comes, and the goal holds at the end
+--   RunsThrough chain goal σ  from σ each step's needs hold when it comes, and the goal holds at the end
 --   AllRun known chain goal   every full state that fits the known facts runs
 --   Needed chain goal k b     fact k is b in every full state that runs
 --   Lacks known chain goal k  fact k is needed and not known so (refusal 13)
@@ -16,24 +16,24 @@ use Rattle.base_masks.specs.Mask.{has}
 use Rattle.read_facts.specs.declared.Literals.{Literals}
 use Rattle.read_facts.specs.declared.Action.{Action}
 
-abbrev pub State : Type 0
-State = ℕ → Bool
+abbrev pub FullState : Type 0
+FullState = ℕ → Bool
 
-abbrev pub Holds : Literals → State → Type 0
+abbrev pub Holds : Literals → FullState → Type 0
 Holds l σ = ((k : ℕ) → has (l .pos) k ≡ true → σ k ≡ true) × ((k : ℕ) → has (l .neg) k ≡ true → σ k ≡ false)
 
-unfoldable pub after : Action → State → State
+unfoldable pub after : Action → FullState → FullState
 after a σ k = cond (has (a .makes .pos) k) true (cond (has (a .makes .neg) k) false (σ k))
 
-abbrev pub Runs : List Action → Literals → State → Type 0
-Runs [] goal σ = Holds goal σ
-Runs (a ∷ rest) goal σ = Holds (a .needs) σ × Runs rest goal (after a σ)
+abbrev pub RunsThrough : List Action → Literals → FullState → Type 0
+RunsThrough [] goal σ = Holds goal σ
+RunsThrough (a ∷ rest) goal σ = Holds (a .needs) σ × RunsThrough rest goal (after a σ)
 
 abbrev pub AllRun : Literals → List Action → Literals → Type 0
-AllRun known chain goal = (σ : State) → Holds known σ → Runs chain goal σ
+AllRun known chain goal = (σ : FullState) → Holds known σ → RunsThrough chain goal σ
 
 abbrev pub Needed : List Action → Literals → ℕ → Bool → Type 0
-Needed chain goal k b = (σ : State) → Runs chain goal σ → σ k ≡ b
+Needed chain goal k b = (σ : FullState) → RunsThrough chain goal σ → σ k ≡ b
 
 abbrev pub Lacks : Literals → List Action → Literals → ℕ → Type 0
 Lacks known chain goal k =

@@ -17,7 +17,7 @@ use Rattle.read_facts.specs.declared.Need.{Need}
 use Rattle.read_facts.specs.declared.Need.the-variants.{Facts, Clash}
 use Rattle.read_facts.specs.Regression.{workBack, thenBack, backOver}
 use Rattle.read_offer.specs.Offer.{stepStart, actionOf, chainFrom}
-use Rattle.read_offer.specs.Held.{heldAction, held}
+use Rattle.read_offer.specs.ChainMasks.{heldAction, held}
 
 -- ---- storing
 

@@ -9,13 +9,13 @@ use mathlib.Core.Logic.{_↔_}
 use mathlib.Core.List.{List}
 use mathlib.Core.Bool.{Bool, true, false, true≢false, cond, _||_}
 use Rattle.base_words.specs.Word.{word}
-use Rattle.base_words.proofs.Laws.{Bytes, word-lt}
+use Rattle.base_words.proofs.WordRange.{Bytes, word-lt}
 use Rattle.base_masks.specs.Mask.{share}
 use Rattle.base_rulings.specs.declared.Ruling.{Ruling}
 use Rattle.base_rulings.specs.declared.Ruling.the-variants.{Accepted}
 use Rattle.base_rulings.specs.Answer.{refuse, refused}
 use Rattle.base_rulings.specs.Order.{andThen}
-use Rattle.base_rulings.proofs.Laws.{refused-no, neither}
+use Rattle.base_rulings.proofs.RulingLaws.{refused-no, neither}
 use Rattle.read_plant.specs.Plant.{trailerOf, recordStart, plantRuling}
 use Rattle.read_plant.proofs.Good.{good, makes-apart}
 use Rattle.read_facts.specs.Regression.{factRuling}

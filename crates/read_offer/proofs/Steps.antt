@@ -19,7 +19,7 @@ use Rattle.base_rulings.specs.declared.Record.{Record}
 use Rattle.base_rulings.specs.declared.Record.the-variants.{Ends, Fails}
 use Rattle.base_rulings.specs.Answer.{cause, refuse}
 use Rattle.base_rulings.specs.Order.{andThen, firstRefusal, refusalOf}
-use Rattle.base_rulings.proofs.Laws.{refused-no, fails-no, passed, neither, both-passed, first-all}
+use Rattle.base_rulings.proofs.RulingLaws.{refused-no, fails-no, passed, neither, both-passed, first-all}
 use Rattle.read_plant.specs.declared.Trailer.{Trailer}
 use Rattle.read_plant.specs.Plant.{trailerOf}
 use Rattle.read_offer.specs.Offer.{stepCount, placeCount, stepEnd, stepStart, stepAt, stepRuling, offerRuling}

@@ -1,2 +1,2 @@
 pub mod Offer
-pub mod Held
+pub mod ChainMasks

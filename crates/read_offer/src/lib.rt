@@ -22,7 +22,7 @@ ghost use Prim.Native.Nat.{_+_, _*_, _≤_, _<_};
 ghost use lib.ListN.{length};
 ghost use Rattle.read_plant.specs.Plant.{plantRuling, trailerOf};
 ghost use Rattle.read_facts.specs.Regression.{workBack};
-ghost use Rattle.read_offer.specs.Held.{heldAction, held};
+ghost use Rattle.read_offer.specs.ChainMasks.{heldAction, held};
 ghost use Rattle.read_offer.specs.Offer.{knownOf, goalOf, stepCount, stepAt, offerRuling, chainFrom, consistencyRuling, chainRuling, factCheck};
 
 // The facts known of the sheet.

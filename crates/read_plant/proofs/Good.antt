@@ -20,7 +20,7 @@ use Rattle.base_rulings.specs.declared.Record.{Record}
 use Rattle.base_rulings.specs.declared.Record.the-variants.{Ends, Fails}
 use Rattle.base_rulings.specs.Answer.{refuse}
 use Rattle.base_rulings.specs.Order.{firstRefusal, refusalOf}
-use Rattle.base_rulings.proofs.Laws.{refused-no, passed, neither, first-all}
+use Rattle.base_rulings.proofs.RulingLaws.{refused-no, passed, neither, first-all}
 use Rattle.read_plant.specs.declared.Trailer.{Trailer}
 use Rattle.read_plant.specs.Plant.{isMark, trailerOf, badLayout, badDuration, someBadAllocation, badAction, recordAt, recordStart, recordRuling, plantRuling, allocationsOf, allocationCount, recordEnd, needsTrue, needsFalse, makesTrue, makesFalse, shortest, longest}
 use Rattle.read_plant.proofs.Records.{Placed, placed, Whole, whole}

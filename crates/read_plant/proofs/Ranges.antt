@@ -10,7 +10,7 @@ use mathlib.Core.Bool.{false}
 use lib.Dec.{ltb}
 use borrow.Author.Tests.{ltb-false}
 use Rattle.base_masks.specs.Mask.{share}
-use Rattle.base_rulings.proofs.Laws.{neither}
+use Rattle.base_rulings.proofs.RulingLaws.{neither}
 use Rattle.read_plant.specs.Plant.{
   badAction,
   badAllocation,

@@ -19,7 +19,7 @@ use Rattle.base_rulings.specs.declared.Record.{Record}
 use Rattle.base_rulings.specs.declared.Record.the-variants.{Ends, Fails}
 use Rattle.base_rulings.specs.Answer.{cause}
 use Rattle.base_rulings.specs.Order.{refusalOf}
-use Rattle.base_rulings.proofs.Laws.{neither, last-of-or, fails-no}
+use Rattle.base_rulings.proofs.RulingLaws.{neither, last-of-or, fails-no}
 use Rattle.read_plant.specs.declared.Trailer.{Trailer}
 use Rattle.read_plant.specs.Plant.{badHead, badRecord, badAllocation, someBadAllocation, badDuration, badAction, recordAt, recordStart, recordRuling, trailerOf, recordEnd, allocationCount, allocationStart, needsTrue, needsFalse, makesTrue, makesFalse, shortest, longest}
 

@@ -3,7 +3,7 @@ use check::same;
 use libc::STDOUT_FILENO;
 
 // What is asked: the options, the number of the argument that names the file (0 for standard input), and what is wrong.
-pub struct Asked {
+pub struct Arguments {
     pub explain: bool,
     pub chart: bool,
     pub file: usize,
@@ -33,8 +33,8 @@ pub fn is_faulty(fault: Fault) -> bool {
 }
 
 // Reads the arguments, up to the first that is wrong.
-pub fn read_arguments() -> Asked {
-    let mut asked = Asked {
+pub fn read_arguments() -> Arguments {
+    let mut asked = Arguments {
         explain: false,
         chart: false,
         file: 0,
@@ -51,7 +51,7 @@ pub fn read_arguments() -> Asked {
     asked
 }
 
-fn with_argument(asked: Asked, k: usize) -> Asked {
+fn with_argument(asked: Arguments, k: usize) -> Arguments {
     let mut text = [0u8; 4096];
     let n = os::arg(k, &mut text);
     let word = word_of(&text[..n]);
@@ -83,11 +83,11 @@ fn word_of(s: &[u8]) -> Word {
     Word::File
 }
 
-fn with_explain(asked: Asked) -> Asked {
+fn with_explain(asked: Arguments) -> Arguments {
     if asked.explain {
         return wrong(Fault::Twice);
     }
-    Asked {
+    Arguments {
         explain: true,
         chart: asked.chart,
         file: 0,
@@ -95,11 +95,11 @@ fn with_explain(asked: Asked) -> Asked {
     }
 }
 
-fn with_chart(asked: Asked) -> Asked {
+fn with_chart(asked: Arguments) -> Arguments {
     if asked.chart {
         return wrong(Fault::Twice);
     }
-    Asked {
+    Arguments {
         explain: asked.explain,
         chart: true,
         file: 0,
@@ -107,8 +107,8 @@ fn with_chart(asked: Asked) -> Asked {
     }
 }
 
-fn with_file(asked: Asked, k: usize) -> Asked {
-    Asked {
+fn with_file(asked: Arguments, k: usize) -> Arguments {
+    Arguments {
         explain: asked.explain,
         chart: asked.chart,
         file: k,
@@ -116,8 +116,8 @@ fn with_file(asked: Asked, k: usize) -> Asked {
     }
 }
 
-fn wrong(fault: Fault) -> Asked {
-    Asked {
+fn wrong(fault: Fault) -> Arguments {
+    Arguments {
         explain: false,
         chart: false,
         file: 0,

@@ -4,7 +4,7 @@
 // It may use log_session and what it shows, and decides nothing of a call.
 mod arguments;
 
-use arguments::Asked;
+use arguments::Arguments;
 use arguments::is_faulty;
 use arguments::read_arguments;
 use arguments::write_fault;
@@ -33,7 +33,7 @@ fn main() {
     flush(&out, end);
 }
 
-fn replay_asked(asked: Asked, board: &mut [u32; BOARD_WORDS], out: &mut [u8]) -> State {
+fn replay_asked(asked: Arguments, board: &mut [u32; BOARD_WORDS], out: &mut [u8]) -> State {
     let options = Options {
         shown: true,
         explain: asked.explain,

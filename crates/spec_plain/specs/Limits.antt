@@ -3,7 +3,7 @@
 -- src/limits.rt has the same numbers for the code. All are abbreviations: a check sees numerals.
 --   mostJobs, mostPoints   the most jobs, and the most live points beside the origin
 --   resources, mostUses    how many resources, and so lines, there are; the most uses in a line
---   mostSteps          the most steps of an offer;  stepPuts, mostPuts: the most allocations of a step, and of an offer
+--   mostSteps          the most steps of an offer;  stepAllocations, mostAllocations: the most allocations of a step, and of an offer
 --   side, cellCount        rows and columns of the gap table, one for each point and the origin; how many cells that makes
 use Prim.Native.Nat.{ℕ, _+_, _*_}
 
@@ -22,11 +22,11 @@ mostUses = 32
 abbrev pub mostSteps : ℕ
 mostSteps = 8
 
-abbrev pub stepPuts : ℕ
-stepPuts = 4
+abbrev pub stepAllocations : ℕ
+stepAllocations = 4
 
-abbrev pub mostPuts : ℕ
-mostPuts = stepPuts * mostSteps
+abbrev pub mostAllocations : ℕ
+mostAllocations = stepAllocations * mostSteps
 
 abbrev pub side : ℕ
 side = mostPoints + 1

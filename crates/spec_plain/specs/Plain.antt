@@ -8,7 +8,7 @@
 -- What later requests change, each in one place:
 --   endOf s u        how long after its point a use ends
 --   trayGap s        how long after a job's last point the tray is free: the distance of rule (e), and what retire waits after the last point
---   upperBound s     the latest time of a new point;  batchOf j: the batch of a job
+--   upperBound s     the latest time of a new point;  jobBatch j: the batch of a job
 -- Rules:
 --   notBefore x p    the rule: point x is at p or later;  notAfter x q: at q or earlier
 --   overBy x d c     the rule: point x plus d is at c or earlier
@@ -22,18 +22,18 @@
 --   placed           the allocations placed one after the other: 15, 16, or the new lines and the rules made (Placed)
 --   batchRules       the rule (e), if there is one: by afterNewest, with the newest job of the batch;  orElse: a list, or another where it is empty
 --   full s n         14: 16 jobs, or more than 64 points with n new ones
---   pointsOf, jobFrom   the number of points that an offer brings, and its job
+--   newPoints, jobFrom  the number of points that an offer brings, and its job
 --   drafted s o      plan, before timetables are looked at: 14, 15, 16, or the state to be and the rules (b) to (e) (Draft);  joining: once placed
 -- Send:
 --   unsentAt k js    not 18: the job at place k is there and unsent
 --   unsentPoints     the points to be set, those of the unsent jobs;  range x n: the n points from x on
---   marked n js, sentState   the first n jobs sent; the state to be
+--   sentUpTo n js, sentState  the first n jobs sent; the state to be
 --   freeze v xs      the rules that set each of the points xs to its value
 -- Clock:
 --   clockOk          not 19: the clock does not go back, and does not pass H
 --   clockState, starts   the state to be; the rules that each unsent job starts late enough
 -- Retire:
---   goes, over       whether a point is one of those that leave; the new number of one that stays
+--   goes, newNumber  whether a point is one of those that leave; the new number of one that stays
 --   staying          a line without the uses of the points that leave
 --   without f m js s the state s with the jobs js, and the lines without the uses of the m points from f on
 --   endsBy, allEndBy the rules that the uses of those points end by the clock: of one line, of all lines
@@ -51,13 +51,13 @@ use Rattle.spec_plain.specs.declared.Job.{Job}
 use Rattle.spec_plain.specs.declared.Use.{Use}
 use Rattle.spec_plain.specs.declared.Rule.{Rule}
 use Rattle.spec_plain.specs.declared.Step.{Step}
-use Rattle.spec_plain.specs.declared.Put.{Put}
+use Rattle.spec_plain.specs.declared.Allocation.{Allocation}
 
 -- an offer as it was read: its batch, its steps, and its allocations "in offer order"
 pub record Offer : Type 0 where
   pub batch : ℕ
   pub steps : List Step
-  pub puts : List Put
+  pub allocations : List Allocation
 
 pub record State : Type 0 where
   pub jobs : List Job
@@ -104,8 +104,8 @@ abbrev pub trayGap : Settings → ℕ
 trayGap s = 0
 
 -- the batch of a job
-abbrev pub batchOf : Job → ℕ
-batchOf j = j .batch
+abbrev pub jobBatch : Job → ℕ
+jobBatch j = j .batch
 
 -- the latest time of a new point: rule (a)
 abbrev pub upperBound : Settings → ℕ
@@ -159,7 +159,7 @@ unfoldable pub ruleAfter : Settings → List Use → ℕ → Use → List Rule
 ruleAfter s line p u = cond (ltb p (length line)) (inOrder s u (getD line p noUse) ∷ []) []
 
 -- the use of an allocation, where p0 of its job is point x
-unfoldable pub usedFrom : ℕ → Put → Use
+unfoldable pub usedFrom : ℕ → Allocation → Use
 usedFrom x p = record { point = x + p .step; offset = p .offset; length = p .length }
 
 -- what placing comes to: refusal 15 or 16, or the new lines and the rules made
@@ -169,7 +169,7 @@ pub data Placed : Type 0 where
 
 -- 15 "A place exceeds the number in its line at that moment." 16 "The line has 32 already; 15 and 16 are tested allocation by allocation."
 -- The allocations left to place, of which the first is number i in the offer; the lines as they are at that moment; the rules so far
-unfoldable pub placed : Settings → ℕ → ℕ → List Put → List (List Use) → List Rule → Placed
+unfoldable pub placed : Settings → ℕ → ℕ → List Allocation → List (List Use) → List Rule → Placed
 placed s x i [] ls rs = done ls rs
 placed s x i (p ∷ ps) ls rs =
     let line : List Use = getD ls (p .resource) [] in
@@ -190,7 +190,7 @@ unfoldable pub afterNewest : ℕ → ℕ → ℕ → ℕ → List Job → List R
 afterNewest d b last x [] = []
 afterNewest d b last x (j ∷ js) =
     orElse (afterNewest d b last (x + j .points) js)
-    (cond (eqb (batchOf j) b) (record { early = x + j .points - 1; more = d; late = last; slack = 0 } ∷ []) [])
+    (cond (eqb (jobBatch j) b) (record { early = x + j .points - 1; more = d; late = last; slack = 0 } ∷ []) [])
 
 unfoldable pub batchRules : ℕ → ℕ → ℕ → List Job → List Rule
 batchRules d b last js = cond (eqb b 0) [] (afterNewest d b last 1 js)
@@ -204,24 +204,24 @@ pub data Draft : Type 0 where
 unfoldable pub full : State → ℕ → Bool
 full s n = leb mostJobs (length (s .jobs)) || ltb mostPoints (total (s .jobs) + n)
 
-abbrev pub pointsOf : Offer → ℕ
-pointsOf o = suc (length (o .steps))
+abbrev pub newPoints : Offer → ℕ
+newPoints o = suc (length (o .steps))
 
 abbrev pub jobFrom : Offer → Job
-jobFrom o = newJob (pointsOf o) (o .batch)
+jobFrom o = newJob (newPoints o) (o .batch)
 
 unfoldable pub joining : State → Offer → Placed → Draft
 joining s o (stop c) = stop c
 joining s o (done ls rs) =
     go
     (withLines (withJobs s (s .jobs ++ (jobFrom o ∷ []))) ls)
-    (pointsOf o)
+    (newPoints o)
     (notBefore (liveCount s) (s .clock + s .settings .lead)
     ∷ durations (liveCount s) (o .steps) ++ rs
-    ++ batchRules (trayGap (s .settings)) (batchOf (jobFrom o)) (liveCount s + length (o .steps)) (s .jobs))
+    ++ batchRules (trayGap (s .settings)) (jobBatch (jobFrom o)) (liveCount s + length (o .steps)) (s .jobs))
 
 unfoldable pub drafted : State → Offer → Draft
-drafted s o = cond (full s (pointsOf o)) (stop (plain 14)) (joining s o (placed (s .settings) (liveCount s) 0 (o .puts) (s .lines) []))
+drafted s o = cond (full s (newPoints o)) (stop (plain 14)) (joining s o (placed (s .settings) (liveCount s) 0 (o .allocations) (s .lines) []))
 
 -- ---- send: "every point of the unsent jobs up to there is set equal to its least value over all possible timetables"
 
@@ -243,13 +243,13 @@ unsentPoints x (suc n) [] = []
 unsentPoints x (suc n) (j ∷ js) = cond (j .sent) [] (range x (j .points)) ++ unsentPoints (x + j .points) n js
 
 -- the first n jobs are sent
-unfoldable pub marked : ℕ → List Job → List Job
-marked zero js = js
-marked (suc n) [] = []
-marked (suc n) (j ∷ js) = sentJob j ∷ marked n js
+unfoldable pub sentUpTo : ℕ → List Job → List Job
+sentUpTo zero js = js
+sentUpTo (suc n) [] = []
+sentUpTo (suc n) (j ∷ js) = sentJob j ∷ sentUpTo n js
 
 unfoldable pub sentState : State → ℕ → State
-sentState s k = withJobs s (marked (suc k) (s .jobs))
+sentState s k = withJobs s (sentUpTo (suc k) (s .jobs))
 
 -- each of these points is set equal to its value
 unfoldable pub freeze : (ℕ → ℕ) → List ℕ → List Rule
@@ -277,14 +277,14 @@ unfoldable pub goes : ℕ → ℕ → ℕ → Bool
 goes f m x = leb f x && ltb x (f + m)
 
 -- the new number of a point that stays
-unfoldable pub over : ℕ → ℕ → ℕ → ℕ
-over f m x = cond (ltb x f) x (x - m)
+unfoldable pub newNumber : ℕ → ℕ → ℕ → ℕ
+newNumber f m x = cond (ltb x f) x (x - m)
 
 -- a line without the uses of those points
 unfoldable pub staying : ℕ → ℕ → List Use → List Use
 staying f m [] = []
 staying f m (u ∷ us) =
-    cond (goes f m (u .point)) [] (record { point = over f m (u .point); offset = u .offset; length = u .length } ∷ []) ++ staying f m us
+    cond (goes f m (u .point)) [] (record { point = newNumber f m (u .point); offset = u .offset; length = u .length } ∷ []) ++ staying f m us
 
 -- the jobs that stay are js
 unfoldable pub without : ℕ → ℕ → List Job → State → State

@@ -40,7 +40,7 @@ pub struct Step {
 
 // An allocation of an offer: its resource, how many uses of the line stand before it (document 01: its place), the number of its step
 // in the offer, its offset and its length.
-pub struct Put {
+pub struct Allocation {
     pub resource: u32,
     pub place: u32,
     pub step: u32,

@@ -14,9 +14,9 @@ pub const MOST_USES: usize = 32;
 pub const MOST_STEPS: usize = 8;
 
 // The allocations of a step, and of an offer.
-pub const STEP_PUTS: usize = 4;
+pub const STEP_ALLOCATIONS: usize = 4;
 
-pub const MOST_PUTS: usize = STEP_PUTS * MOST_STEPS;
+pub const MOST_ALLOCATIONS: usize = STEP_ALLOCATIONS * MOST_STEPS;
 
 // Rows and columns of the gap table: a point each, and the origin.
 pub const SIDE: usize = MOST_POINTS + 1;

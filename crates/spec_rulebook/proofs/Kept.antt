@@ -46,7 +46,7 @@ module _ (f m : ℕ) where
 
   -- one before those that leave
   reindexed-before : (k : ℕ) → k < f → reindexed f m (live k) ≡ live k
-  unfolding reindexed Plain.goes Plain.over
+  unfolding reindexed Plain.goes Plain.newNumber
   reindexed-before k h = simp (lt-leb f k h, lt-ltb k f h)
 
   -- one of the m that leave
@@ -56,7 +56,7 @@ module _ (f m : ℕ) where
 
   -- one behind them
   reindexed-stays : (k : ℕ) → f + m ≤ k → reindexed f m (live k) ≡ live (k - m)
-  unfolding reindexed Plain.goes Plain.over
+  unfolding reindexed Plain.goes Plain.newNumber
   reindexed-stays k h = simp (le-leb f k (omega arith), le-ltb k (f + m) h, le-ltb k f (omega arith))
 
   back-live : (k : ℕ) → back f m (reindexed f m (live k)) ≡ live k

@@ -4,12 +4,12 @@
 --   Point              a live point by its number, the origin 0; or a retired one
 --   Book               the plain machine's state, and every rule made so far;  fresh s: the first one;  made: with more rules
 --   Possible b u       the timetable u over the live points is possible, `completed` by numbers for the retired ones
---   SomePossible b             some timetable is possible
+--   Consistent b               some timetable is possible
 --   LeastTime Y x v    v is the least time of x over the timetables Y: attained, and never below;  GreatestTime: the greatest, never above
 --   LargestGap Y i j d d is the largest time of j minus time of i over the timetables Y: attained, and never passed
 --   Least, Greatest    the least and the greatest value of a point over the possible timetables
 --   Gap b i j d        d is the largest time of j minus time of i over the possible timetables: entry (i, j) of the gap table
---   Always b rs        every possible timetable keeps these rules
+--   Entails b rs       every possible timetable keeps these rules
 --   Refuses, Settles, Guarded   a refusal; rules that are made if some timetable keeps them; a test before a step
 --   Step b c r k       the call c on the book b is ruled r and leaves the book k, by Reads and Plans, Sends (AllLeast) and Retires (reindexed)
 --   Runs b cs rs k     a list of calls, their rulings, and the book at the end
@@ -69,8 +69,8 @@ completed u g (gone x) = g x
 unfoldable pub Possible : Book → Times → Type 0
 Possible b u = (u 0 ≡ pos 0) × ((g : ℕ → ℤ) × AllKept (completed u g) (b .rules))
 
-unfoldable pub SomePossible : Book → Type 0
-SomePossible b = (u : Times) × Possible b u
+unfoldable pub Consistent : Book → Type 0
+Consistent b = (u : Times) × Possible b u
 
 -- ---- least and greatest values, over a set Y of timetables
 
@@ -99,8 +99,8 @@ abbrev pub Gap : Book → ℕ → ℕ → ℤ → Type 0
 Gap b i j d = LargestGap (Possible b) i j d
 
 -- in every possible timetable these rules are kept
-unfoldable pub Always : Book → List Rule → Type 0
-Always b rs = (u : Times) → Possible b u → AllKept u (map (named (λ x. x)) rs)
+unfoldable pub Entails : Book → List Rule → Type 0
+Entails b rs = (u : Times) → Possible b u → AllKept u (map (named (λ x. x)) rs)
 
 -- ---- the steps
 
@@ -114,7 +114,7 @@ made s b rs = record { state = s; rules = b .rules ++ map (named live) rs }
 
 -- the rules are made if some timetable then keeps all, and else the call is refused with the number n: 17 for plan, 20 for clock
 unfoldable pub Settles : Book → Book → ℕ → Ruling → Book → Type 0
-Settles b next n r k = (SomePossible next × (r ≡ Accepted) × (k ≡ next)) ⊎ (¬ (SomePossible next) × Refuses b (plain n) r k)
+Settles b next n r k = (Consistent next × (r ≡ Accepted) × (k ≡ next)) ⊎ (¬ (Consistent next) × Refuses b (plain n) r k)
 
 -- where the test fails the call is refused with the number n
 unfoldable pub Guarded : Bool → ℕ → Book → (Ruling → Book → Type 0) → Ruling → Book → Type 0
@@ -144,14 +144,14 @@ Sends b place xs r k =
 -- the m points from f on leave, and those behind them are renumbered down
 unfoldable pub reindexed : ℕ → ℕ → Point → Point
 reindexed f m (gone x) = gone (x + m)
-reindexed f m (live x) = cond (Plain.goes f m x) (gone (x - f)) (live (Plain.over f m x))
+reindexed f m (live x) = cond (Plain.goes f m x) (gone (x - f)) (live (Plain.newNumber f m x))
 
 -- 21: "or its last point or an allocation ends after the clock". "The rule book keeps its rules."
 unfoldable pub Retires : Book → Plain.Leaving → Ruling → Book → Type 0
 Retires b Plain.Leaving.stop r k = Refuses b (plain 21) r k
 Retires b (Plain.Leaving.go m rs s) r k =
-    (Always b rs × (r ≡ Accepted) × (k ≡ record { state = s; rules = map (renamed (reindexed 1 m)) (b .rules) }))
-    ⊎ (¬ (Always b rs) × Refuses b (plain 21) r k)
+    (Entails b rs × (r ≡ Accepted) × (k ≡ record { state = s; rules = map (renamed (reindexed 1 m)) (b .rules) }))
+    ⊎ (¬ (Entails b rs) × Refuses b (plain 21) r k)
 
 unfoldable pub Step : Book → Call → Ruling → Book → Type 0
 Step b (plan p o) r k = Reads b (readingOf (b .state) p o) r k

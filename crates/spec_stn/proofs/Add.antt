@@ -15,24 +15,24 @@ use borrow.Author.Tests.{leb-true, leb-false}
 use Rattle.spec_plain.specs.declared.Rule.{Rule}
 use Rattle.spec_plain.specs.Rules.{Times, AllKept}
 use Rattle.spec_plain.proofs.Rules.{Keeps, KeepsAll, keeps-to, keeps-of}
-use Rattle.spec_stn.specs.Table.{bias, Table, Closed, Fits, Agrees, agrees, add, addAll, Within}
+use Rattle.spec_stn.specs.Table.{bias, Table, Closed, Fits, IsConsistent, isConsistent, add, addAll, Within}
 use Rattle.spec_stn.proofs.Fits.{fits-to, fits-of}
 
-module _ (n : ℕ) (c : Table) (r : Rule) (cl : Closed n c) (x : r .early < n) (y : r .late < n) (ok : Agrees r c) where
+module _ (n : ℕ) (c : Table) (r : Rule) (cl : Closed n c) (x : r .early < n) (y : r .late < n) (ok : IsConsistent r c) where
   -- no cell is cut off at 0
   whole-cell : (a b : ℕ) → a < n → b < n → bias + r .more ≤ c a (r .late) + r .slack + c (r .early) b
-  unfolding Agrees
+  unfolding IsConsistent
   whole-cell a b ha hb =
       omega (arith, cl .triangle (r .early) b (r .late) x hb y, cl .triangle b a (r .late) hb ha y, cl .bounded b a hb ha)
 
   add-diagonal : (i : ℕ) → i < n → add r c i i ≡ bias
-  unfolding add Agrees
+  unfolding add IsConsistent
   add-diagonal i h = omega (arith, cl .diagonal i h, cl .triangle (r .early) i (r .late) x h y)
 
   -- A way from i by j to k crosses the rule not at all, before j, after j, or twice; the last is no shorter than crossing it once, since
   -- the rule agrees: from early to late and back across it is no gain
   add-triangle : (i j k : ℕ) → i < n → j < n → k < n → add r c i k + bias ≤ add r c i j + add r c j k
-  unfolding add Agrees
+  unfolding add IsConsistent
   add-triangle i j k hi hj hk =
       omega (
         arith,
@@ -77,8 +77,8 @@ module _ (n : ℕ) (c : Table) (r : Rule) (cl : Closed n c) (x : r .early < n) (
       λ i j hi hj.
       omega (arith, fits-to f i j hi hj, fits-to f i (r .late) hi y, fits-to f (r .early) j x hj, whole-cell i j hi hj, keeps-to t r k)
 
-pub add-none : (n : ℕ) (c : Table) (r : Rule) → r .early < n → r .late < n → ¬ (Agrees r c) → (t : Times) → Fits n c t → ¬ (Keeps t r)
-unfolding Agrees
+pub add-none : (n : ℕ) (c : Table) (r : Rule) → r .early < n → r .late < n → ¬ (IsConsistent r c) → (t : Times) → Fits n c t → ¬ (Keeps t r)
+unfolding IsConsistent
 add-none n c r x y bad t f k = bad (omega (arith, fits-to f (r .early) (r .late) x y, keeps-to t r k))
 
 -- ---- rule after rule
@@ -88,7 +88,7 @@ Added n c rs (some d) = Closed n d × ((t : Times) → Fits n d t ↔ (Fits n c 
 Added n c rs none = (t : Times) → Fits n c t → ¬ (KeepsAll t rs)
 
 added-cons :
-    (n : ℕ) (c : Table) (r : Rule) (rs : List Rule) → Closed n c → r .early < n → r .late < n → Agrees r c
+    (n : ℕ) (c : Table) (r : Rule) (rs : List Rule) → Closed n c → r .early < n → r .late < n → IsConsistent r c
     → (o : Option Table) → Added n (add r c) rs o → Added n c (r ∷ rs) o
 unfolding Added AllKept
 added-cons n c r rs cl x y ok (some d) a = (
@@ -104,17 +104,17 @@ added-cons n c r rs cl x y ok (some d) a = (
 added-cons n c r rs cl x y ok none a = λ t f k. a t (add-fits-of n c r cl x y ok t f (k .0)) (k .1)
 
 pub addAll-added : (n : ℕ) (c : Table) (rs : List Rule) → Closed n c → Within n rs → Added n c rs (addAll rs c)
-unfolding addAll Within Added AllKept Agrees
+unfolding addAll Within Added AllKept IsConsistent
 addAll-added n c [] cl w = (cl, λ t. (λ f. (f, tt), λ p. p .0))
 addAll-added n c (r ∷ rs) cl w =
-    step (agrees r c) refl (λ closed. addAll-added n (add r c) rs closed (w .2))
+    step (isConsistent r c) refl (λ closed. addAll-added n (add r c) rs closed (w .2))
   where
     step :
-        (b : Bool) → agrees r c ≡ b
+        (b : Bool) → isConsistent r c ≡ b
         → (Closed n (add r c) → Added n (add r c) rs (addAll rs (add r c)))
         → Added n c (r ∷ rs) (elim b [ true ↦ addAll rs (add r c) | false ↦ none ])
     step true e rest =
-        let ok : Agrees r c = leb-true _ _ e in
+        let ok : IsConsistent r c = leb-true _ _ e in
         added-cons n c r rs cl (w .0) (w .1) ok (addAll rs (add r c)) (rest (add-closed n c r cl (w .0) (w .1) ok))
     step false e rest =
         let short : r .slack + c (r .early) (r .late) < bias + r .more = leb-false _ _ e in

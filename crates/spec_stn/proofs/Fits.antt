@@ -3,7 +3,7 @@
 --   far-fits, far-origin the largest gap after a point is attained: by `far`
 --   tight                a cell is no larger than in any table that allows the same timetables or more
 --   implied-of, -to      all timetables of the table keep a rule exactly when one cell says so
---   implied-no, -yes     the same of a list of rules and the test `implied`
+--   implied-no, -yes     the same of a list of rules and the test `entailsAll`
 --   implied-append       two lists of rules, one after the other: both are implied
 --   latest-far, latest-most   the latest time of a point is attained by `far` from the origin, and no timetable is later there
 --   soonest-fits, soonest-origin, soonest-least   the earliest times are a timetable together, and no timetable is sooner anywhere
@@ -19,7 +19,7 @@ use Rattle.spec_plain.specs.declared.Rule.{Rule}
 use Rattle.spec_plain.specs.Rules.{Times, AllKept}
 use Rattle.spec_plain.proofs.Whole.{up, dn, sub-spec, whole-eq}
 use Rattle.spec_plain.proofs.Rules.{NotLater, kept-to, kept-of, Keeps, KeepsAll, keeps-to, keeps-of}
-use Rattle.spec_stn.specs.Table.{bias, Table, Closed, Fits, far, earliest, latest, soonest, Within, implies, implied}
+use Rattle.spec_stn.specs.Table.{bias, Table, Closed, Fits, far, earliest, latest, soonest, Within, entails, entailsAll}
 
 pub fits-to : {n : ℕ} {c : Table} {t : Times} → Fits n c t → (i j : ℕ) → i < n → j < n → NotLater t j bias i (c i j)
 fits-to {n} {c} {t} f i j hi hj = kept-to t (record { early = j; more = bias; late = i; slack = c i j }) (f .cell i j hi hj)
@@ -70,37 +70,37 @@ pub implied-to :
     → (t : Times) → Fits n c t → Keeps t r
 implied-to n c r x y h t f = keeps-of t r (omega (arith, fits-to f (r .late) (r .early) y x))
 
-pub implied-yes : (n : ℕ) (c : Table) (rs : List Rule) → Within n rs → T (implied c rs) → (t : Times) → Fits n c t → KeepsAll t rs
-unfolding Within implied AllKept
+pub implied-yes : (n : ℕ) (c : Table) (rs : List Rule) → Within n rs → T (entailsAll c rs) → (t : Times) → Fits n c t → KeepsAll t rs
+unfolding Within entailsAll AllKept
 implied-yes n c [] w i t f = tt
 implied-yes n c (r ∷ rs) w i t f =
-    go (implies c r) refl i (λ j. implied-yes n c rs (w .2) j t f)
+    go (entails c r) refl i (λ j. implied-yes n c rs (w .2) j t f)
   where
     go :
-        (b : Bool) → implies c r ≡ b → T (b && implied c rs)
-        → (T (implied c rs) → KeepsAll t rs) → Keeps t r × KeepsAll t rs
+        (b : Bool) → entails c r ≡ b → T (b && entailsAll c rs)
+        → (T (entailsAll c rs) → KeepsAll t rs) → Keeps t r × KeepsAll t rs
     go true e i rest = (implied-to n c r (w .0) (w .1) (leb-true _ _ e) t f, rest i)
     go false e i rest = absurd i
 
 pub implied-no :
-    (n : ℕ) (c : Table) (rs : List Rule) → Closed n c → Within n rs → ((t : Times) → t 0 ≡ pos 0 → Fits n c t → KeepsAll t rs) → T (implied c rs)
-unfolding Within implied AllKept
+    (n : ℕ) (c : Table) (rs : List Rule) → Closed n c → Within n rs → ((t : Times) → t 0 ≡ pos 0 → Fits n c t → KeepsAll t rs) → T (entailsAll c rs)
+unfolding Within entailsAll AllKept
 implied-no n c [] cl w k = tt
 implied-no n c (r ∷ rs) cl w k =
-    go (implies c r) refl (implied-no n c rs cl (w .2) (λ t o f. k t o f .1))
+    go (entails c r) refl (implied-no n c rs cl (w .2) (λ t o f. k t o f .1))
   where
-    go : (b : Bool) → implies c r ≡ b → T (implied c rs) → T (b && implied c rs)
+    go : (b : Bool) → entails c r ≡ b → T (entailsAll c rs) → T (b && entailsAll c rs)
     go true e rest = rest
     go false e rest =
         let fails : bias + r .slack < c (r .late) (r .early) + r .more = leb-false _ _ e in
         absurd (omega (arith, implied-of n c r cl (w .0) (w .1) (λ t o f. k t o f .0)))
 
-pub implied-append : (c : Table) (rs ss : List Rule) → implied c (rs ++ ss) ≡ (implied c rs && implied c ss)
-unfolding implied
+pub implied-append : (c : Table) (rs ss : List Rule) → entailsAll c (rs ++ ss) ≡ (entailsAll c rs && entailsAll c ss)
+unfolding entailsAll
 implied-append c [] ss = refl
 implied-append c (r ∷ rs) ss =
-    let here : Bool = implies c r in
-    ap (_&&_ here) (implied-append c rs ss) ∙ sym (and-assoc here (implied c rs) (implied c ss))
+    let here : Bool = entails c r in
+    ap (_&&_ here) (implied-append c rs ss) ∙ sym (and-assoc here (entailsAll c rs) (entailsAll c ss))
 
 -- ---- the earliest times
 

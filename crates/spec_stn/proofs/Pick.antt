@@ -15,7 +15,7 @@ use native.Mathlib.Decide.{decLt}
 use lib.IntN.{pos, subℕ}
 use borrow.Author.Tests.{lt-ltb, le-ltb, le-leb, lt-leb}
 use Rattle.spec_plain.specs.Rules.{Times}
-use Rattle.spec_plain.specs.Plain.{goes, over}
+use Rattle.spec_plain.specs.Plain.{goes, newNumber}
 use Rattle.spec_plain.proofs.Whole.{up, dn, sub-spec}
 use Rattle.spec_plain.proofs.Rules.{NotLater}
 use Rattle.spec_stn.specs.Table.{bias, Table, Closed, Fits, pick, Still, oldNumber}
@@ -58,17 +58,17 @@ module _ (f m : ℕ) where
   unfolding goes
   goes-yes x lo hi = simp (le-leb f x lo, lt-ltb x (f + m) hi)
 
-  over-low : (x : ℕ) → x < f → over f m x ≡ x
-  unfolding over
+  over-low : (x : ℕ) → x < f → newNumber f m x ≡ x
+  unfolding newNumber
   over-low x h = rw (lt-ltb x f h)
 
-  over-high : (x : ℕ) → f + m ≤ x → over f m x ≡ x - m
-  unfolding over
+  over-high : (x : ℕ) → f + m ≤ x → newNumber f m x ≡ x - m
+  unfolding newNumber
   over-high x h = rw (le-ltb x f (omega arith))
 
 pub data Number (f m x : ℕ) : Type 0 where
   leaves : f ≤ x → x < f + m → goes f m x ≡ true → Number f m x
-  stays : x ≡ oldNumber f m (over f m x) → goes f m x ≡ false → Number f m x
+  stays : x ≡ oldNumber f m (newNumber f m x) → goes f m x ≡ false → Number f m x
 
 pub number : (f m x : ℕ) → Number f m x
 number f m x = go (decLt x f) (decLt x (f + m))
@@ -120,20 +120,20 @@ module _ (f m : ℕ) where
       go (inl p) = rw (p .1) (goes-low f m x (p .0))
       go (inr p) = rw (p .1) (goes-high f m (x + m) (omega arith))
 
-  pub over-old : (x : ℕ) → over f m (oldNumber f m x) ≡ x
+  pub over-old : (x : ℕ) → newNumber f m (oldNumber f m x) ≡ x
   over-old x = go (old-cases x)
     where
-      go : OldNumber f m x → over f m (oldNumber f m x) ≡ x
+      go : OldNumber f m x → newNumber f m (oldNumber f m x) ≡ x
       go (inl p) = rw (p .1) (over-low f m x (p .0))
       go (inr p) = rw (p .1) (omega (arith, over-high f m (x + m) (omega arith)))
 
 -- ---- the leaving points stand still
 
 unfoldable pub spread : ℕ → ℕ → Table → Times → Times
-spread f m c u x = cond (goes f m x) (subℕ (c 0 x) bias) (u (over f m x))
+spread f m c u x = cond (goes f m x) (subℕ (c 0 x) bias) (u (newNumber f m x))
 
 module _ (f m : ℕ) (c : Table) (u : Times) where
-  pub spread-stays : (x : ℕ) → goes f m x ≡ false → spread f m c u x ≡ u (over f m x)
+  pub spread-stays : (x : ℕ) → goes f m x ≡ false → spread f m c u x ≡ u (newNumber f m x)
   unfolding spread
   spread-stays x e = rw e
 
@@ -181,11 +181,11 @@ spread-fits f m n c u z le cl st o fit =
     zero-time = spread-origin f m c u z ∙ o
 
     go : (i j : ℕ) → i < n + m → j < n + m → Number f m i → Number f m j → NotLater t j bias i (c i j)
-    go i j hi hj (stays a d) (stays b e) = cell i j hi hj (over f m i) (over f m j) a b
+    go i j hi hj (stays a d) (stays b e) = cell i j hi hj (newNumber f m i) (newNumber f m j) a b
     go i j hi hj (stays a d) (leaves lo top e) =
         omega (
           arith,
-          cell i 0 hi (omega arith) (over f m i) 0 a origin,
+          cell i 0 hi (omega arith) (newNumber f m i) 0 a origin,
           ap up zero-time,
           ap dn zero-time,
           spread-still f m c u j e,
@@ -195,7 +195,7 @@ spread-fits f m n c u z le cl st o fit =
     go i j hi hj (leaves lo top d) (stays b e) =
         omega (
           arith,
-          cell 0 j (omega arith) hj 0 (over f m j) origin b,
+          cell 0 j (omega arith) hj 0 (newNumber f m j) origin b,
           ap up zero-time,
           ap dn zero-time,
           spread-still f m c u i d,

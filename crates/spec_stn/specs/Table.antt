@@ -3,14 +3,14 @@
 --   bias, Table      100,000,000, the largest horizon; the tables
 --   Closed n c       c is a minimal network of the first n points
 --   Fits n c t       the timetable t keeps to the cells of the first n points
---   Agrees r c       some timetable of the closed table c keeps the rule r too;  agrees r c: the test;  add r c: the table of those that do
+--   IsConsistent r c  some timetable of the closed table c keeps the rule r too;  isConsistent r c: the test;  add r c: the table of those that do
 --   addAll rs c      rule after rule, or none when one does not agree with those before it
 --   Within n rs      every rule names only the first n points
 --   grow H n c       a new point, numbered n, from 0 to H;  growAll H n k c: k new points
 --   far c i          the timetable in which each point is as late after i as the table allows
 --   earliest, latest the earliest and the latest time of a point;  soonest c: the timetable of the earliest times
 --   Still c x        the point x stands still: its earliest time is its latest
---   implies c r      every timetable of the table keeps this rule;  implied c rs: these rules
+--   entails c r      every timetable of the table keeps this rule;  entailsAll c rs: these rules
 --   pick σ c         the table of the points σ 0, σ 1, ..;  oldNumber f m: numbers before m points from f on left
 --   Agree n c d      the same cells among the first n points
 use mathlib.Core.Path.{_≡_}
@@ -63,11 +63,11 @@ Still c x = c 0 x + c x 0 ≡ bias + bias
 
 -- ---- a rule added
 
-unfoldable pub Agrees : Rule → Table → Type 0
-Agrees r c = bias + r .more ≤ r .slack + c (r .early) (r .late)
+unfoldable pub IsConsistent : Rule → Table → Type 0
+IsConsistent r c = bias + r .more ≤ r .slack + c (r .early) (r .late)
 
-abbrev pub agrees : Rule → Table → Bool
-agrees r c = leb (bias + r .more) (r .slack + c (r .early) (r .late))
+abbrev pub isConsistent : Rule → Table → Bool
+isConsistent r c = leb (bias + r .more) (r .slack + c (r .early) (r .late))
 
 -- the least of the cell and the way from a by late and early to b
 unfoldable pub add : Rule → Table → Table
@@ -75,19 +75,19 @@ add r c a b = min (c a b) (c a (r .late) + r .slack + c (r .early) b - (bias + r
 
 unfoldable pub addAll : List Rule → Table → Option Table
 addAll [] c = some c
-addAll (r ∷ rs) c = elim (agrees r c) [ true ↦ addAll rs (add r c) | false ↦ none ]
+addAll (r ∷ rs) c = elim (isConsistent r c) [ true ↦ addAll rs (add r c) | false ↦ none ]
 
 unfoldable pub Within : ℕ → List Rule → Type 0
 Within n [] = Unit {0}
 Within n (r ∷ rs) = (r .early < n) × (r .late < n) × Within n rs
 
 -- the largest that early is after late is at most slack − more
-abbrev pub implies : Table → Rule → Bool
-implies c r = leb (c (r .late) (r .early) + r .more) (bias + r .slack)
+abbrev pub entails : Table → Rule → Bool
+entails c r = leb (c (r .late) (r .early) + r .more) (bias + r .slack)
 
-unfoldable pub implied : Table → List Rule → Bool
-implied c [] = true
-implied c (r ∷ rs) = implies c r && implied c rs
+unfoldable pub entailsAll : Table → List Rule → Bool
+entailsAll c [] = true
+entailsAll c (r ∷ rs) = entails c r && entailsAll c rs
 
 -- ---- points added and dropped
 

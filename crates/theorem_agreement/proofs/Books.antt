@@ -21,7 +21,7 @@ use Rattle.spec_rulebook.specs.Book.{Point, completed, Possible}
 use Rattle.part_boardwords.specs.Board.{Board}
 use Rattle.base_lists.specs.All.{All}
 use Rattle.part_sound.specs.Sound.{SizedJob, SizedUse, Sound}
-use Rattle.theorem_demands.specs.Beside.{LineIn, LinesIn, JobsIn, Holds, Sim}
+use Rattle.theorem_demands.specs.Beside.{LineOfLive, LinesOfLive, AllHavePoints, StandsFor, Sim}
 use Rattle.theorem_demands.proofs.Tries.{beside}
 use Rattle.theorem_agreement.specs.Abstract.{Shaped, abstractOf, cellRule, rowRules, tableRules, bookOf}
 use Rattle.theorem_agreement.proofs.Parts.{SizedLine, Parts, parts-of}
@@ -65,26 +65,26 @@ cells-fit l n u g =
 
 -- ---- the rest of a state
 
-sizes-in : (js : List Job) → All SizedJob js → JobsIn js
-unfolding JobsIn
+sizes-in : (js : List Job) → All SizedJob js → AllHavePoints js
+unfolding AllHavePoints
 sizes-in [] a = tt
 sizes-in (j ∷ js) a = (let two = a .0 .least in omega (arith, two), sizes-in js (a .1))
 
-line-in : (n : ℕ) (us : List Use) → All (SizedUse n) us → LineIn (suc n) us
-unfolding LineIn
+line-in : (n : ℕ) (us : List Use) → All (SizedUse n) us → LineOfLive (suc n) us
+unfolding LineOfLive
 line-in n [] a = tt
 line-in n (u ∷ us) a =
     let hi = a .0 .live in
     (omega (arith, hi), line-in n us (a .1))
 
-lines-in : (n : ℕ) (ls : List (List Use)) → All (SizedLine n) ls → LinesIn (suc n) ls
-unfolding LinesIn
+lines-in : (n : ℕ) (ls : List (List Use)) → All (SizedLine n) ls → LinesOfLive (suc n) ls
+unfolding LinesOfLive
 lines-in n [] a = tt
 lines-in n (us ∷ ls) a = (line-in n us (a .0 .uses), lines-in n ls (a .1))
 
 -- ---- side by side
 
-pub parts-holds : {s : State} {l : List ℕ} → Parts s l → Holds s (tableOf l) (tableRules l (liveCount s) (liveCount s))
+pub parts-holds : {s : State} {l : List ℕ} → Parts s l → StandsFor s (tableOf l) (tableRules l (liveCount s) (liveCount s))
 unfolding liveCount Possible
 parts-holds {s} {l} p =
     let few = p .limits .horizon .1 in

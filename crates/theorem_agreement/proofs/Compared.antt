@@ -10,7 +10,7 @@ use Rattle.part_sound.specs.Sound.{pointsOf}
 use Rattle.part_sound.proofs.Soundness.{sound-of}
 use Rattle.log_tables.proofs.Equal.{equal-exactly}
 use Rattle.theorem_agreement.specs.Abstract.{livePoints}
-use Rattle.theorem_agreement.specs.Runs.{started, after}
+use Rattle.theorem_agreement.specs.Runs.{started, boardAfter}
 use Rattle.theorem_agreement.specs.Compared.{ComparesRight}
 use Rattle.theorem_agreement.proofs.Lists.{agreement}
 use Rattle.theorem_agreement.proofs.Demand3.{demand3-lists}
@@ -28,8 +28,8 @@ pub compares-right : ComparesRight
 compares-right s t good fine cs ds rs qs k j p q =
     let left = agreement s good cs in
     let right = agreement t fine ds in
-    let b = after (started s) cs in
-    let d = after (started t) ds in
+    let b = boardAfter (started s) cs in
+    let d = boardAfter (started t) ds in
     let answer =
     equal-exactly b d (sound-of b (left .shaped .lines) (left .sound)) (sound-of d (right .shaped .lines) (right .sound))
     (left .shaped .gaps ∙ sym (right .shaped .gaps)) in

@@ -19,9 +19,9 @@ use Rattle.base_rulings.specs.declared.Ruling.the-variants.{Accepted}
 use Rattle.base_rulings.specs.Answer.{refuse}
 use Rattle.spec_plain.specs.Limits.{mostJobs, mostPoints}
 use Rattle.spec_plain.specs.declared.Rule.{Rule}
-use Rattle.spec_plain.specs.Plain.{Offer, State, Draft, total, pointsOf, upperBound, bounds, drafted, unsentAt, unsentPoints, clockOk, clockState, starts}
+use Rattle.spec_plain.specs.Plain.{Offer, State, Draft, total, newPoints, upperBound, bounds, drafted, unsentAt, unsentPoints, clockOk, clockState, starts}
 use Rattle.spec_plain.proofs.Rules.{KeepsAll}
-use Rattle.part_lines.specs.Held.{noJob}
+use Rattle.part_lines.specs.ArrayLists.{noJob}
 use Rattle.part_lines.proofs.JobLaws.{unsent-at}
 use Rattle.spec_rulebook.specs.Reading.{Reading, good, readingOf}
 use Rattle.spec_rulebook.specs.Book.{plan, send, clock, Plans, Reads, Step}
@@ -35,7 +35,7 @@ use Rattle.theorem_demands.specs.Sent.{newest}
 use Rattle.theorem_demands.proofs.After20.{after20}
 use Rattle.theorem_demands.proofs.Step.{sim-keeps, sim-exists}
 use Rattle.theorem_agreement.specs.Abstract.{Shaped, livePoints, bookOf, Agreed}
-use Rattle.theorem_agreement.specs.Runs.{answer}
+use Rattle.theorem_agreement.specs.Runs.{callRuled}
 use Rattle.theorem_agreement.specs.Timetables.{Timetable, Minimal, Decided, SetLeast}
 use Rattle.theorem_agreement.proofs.Parts.{parts-of, jobs-count}
 use Rattle.theorem_agreement.proofs.Books.{sound-sim}
@@ -54,7 +54,7 @@ module _ (b : Board) (w : Shaped b) (s : Sound b) where
       (p o : List ℕ) (offer : Offer) (next : State) (m : ℕ) (rs : List Rule)
       → readingOf (stateOf b) p o ≡ good offer → drafted (stateOf b) offer ≡ Draft.go next m rs
       → Decided b 17 (λ u. Timetable b u × KeepsAll u (bounds (upperBound (stateOf b .settings)) (livePoints b) m ++ rs)) (planned b p o)
-  unfolding answer Step Reads Plans heard decided
+  unfolding callRuled Step Reads Plans heard decided
   plan-decided p o offer next m rs e d =
       settled-decided b w s 17 next (bounds (upperBound (stateOf b .settings)) (livePoints b) m ++ rs) (planned b p o) _
       (planned-is b w s p o ∙ ap (heard b) e ∙ ap (decided b) d)
@@ -65,7 +65,7 @@ module _ (b : Board) (w : Shaped b) (s : Sound b) where
   pub clock-decided :
       (c : ℕ) → b .clock ≤ c → c ≤ b .settings .horizon
       → Decided b 20 (λ u. Timetable b u × KeepsAll u (starts (c + b .settings .lead) 1 (stateOf b .jobs))) (clocked b c)
-  unfolding answer Step clocked
+  unfolding callRuled Step clocked
   clock-decided c lo hi =
       let ok : clockOk (stateOf b) c ≡ true = unfold clockOk in rw (le-leb (b .clock) c lo, le-leb c (b .settings .horizon) hi) in
       let rules : List Rule = starts (c + b .settings .lead) 1 (stateOf b .jobs) in
@@ -77,7 +77,7 @@ module _ (b : Board) (w : Shaped b) (s : Sound b) where
   pub send-decided :
       (place : ℕ) → place < length (stateOf b .jobs) → getD (stateOf b .jobs) place noJob .sent ≡ false
       → SetLeast b (unsentPoints 1 (suc place) (stateOf b .jobs)) (sent b place)
-  unfolding answer Step
+  unfolding callRuled Step
   send-decided place there unsent =
       let ok : unsentAt place (stateOf b .jobs) ≡ true = sym (unsent-at (stateOf b .jobs) place there) ∙ ap not unsent in
       sends-least b w s place (unsentPoints 1 (suc place) (stateOf b .jobs)) (sent b place)
@@ -101,12 +101,12 @@ module _ (b : Board) (w : Shaped b) (s : Sound b) where
 
   pub plan-14 :
       (p o : List ℕ) (offer : Offer) → readingOf (stateOf b) p o ≡ good offer
-      → (planned b p o .ruling ≡ refuse 14) ↔ ((b .jobs .count ≡ mostJobs) ⊎ (mostPoints < total (stateOf b .jobs) + pointsOf offer))
+      → (planned b p o .ruling ≡ refuse 14) ↔ ((b .jobs .count ≡ mostJobs) ⊎ (mostPoints < total (stateOf b .jobs) + newPoints offer))
   unfolding heard
   plan-14 p o offer e =
       let few = s .jobs in
       let is = jobs-count b w s in
       let heard-as : planned b p o ≡ decided b (drafted (stateOf b) offer) = planned-is b w s p o ∙ ap (heard b) e in
       rw heard-as
-      (subst (λ (k : ℕ). (decided b (drafted (stateOf b) offer) .ruling ≡ refuse 14) ↔ ((k ≡ mostJobs) ⊎ (mostPoints < total (stateOf b .jobs) + pointsOf offer))) is
+      (subst (λ (k : ℕ). (decided b (drafted (stateOf b) offer) .ruling ≡ refuse 14) ↔ ((k ≡ mostJobs) ⊎ (mostPoints < total (stateOf b .jobs) + newPoints offer))) is
       (decided-14 b offer (omega (arith, is, few))))

@@ -26,7 +26,7 @@ use Rattle.call_board.specs.Boards.{badSettings}
 use Rattle.theorem_demands.specs.Cases.{SameTimetables}
 use Rattle.theorem_demands.proofs.Compare.{sim-compare}
 use Rattle.theorem_agreement.specs.Abstract.{Shaped, livePoints}
-use Rattle.theorem_agreement.specs.Runs.{started, opened, after}
+use Rattle.theorem_agreement.specs.Runs.{started, opened, boardAfter}
 use Rattle.theorem_agreement.specs.Demand3.{SameCells, Demand3}
 use Rattle.theorem_agreement.proofs.Parts.{parts-of}
 use Rattle.theorem_agreement.proofs.States.{live-few}
@@ -60,8 +60,8 @@ pub demand3 : Demand3
 demand3 s t good fine cs ds rs qs k j p q same =
     let left = agreement s good cs in
     let right = agreement t fine ds in
-    let b = after (started s) cs in
-    let d = after (started t) ds in
+    let b = boardAfter (started s) cs in
+    let d = boardAfter (started t) ds in
     let both = sim-compare (reached s good cs rs k p .1) (reached t fine ds qs j q .1) same in (
       λ e. both .0 (cells-to b d (left .shaped) (right .shaped) (left .sound) (right .sound) same e),
       λ u. cells-of b d (left .shaped) (right .shaped) (left .sound) (right .sound) same (both .1 u),
@@ -72,8 +72,8 @@ module _
     (p : Runs (opened s) cs rs k) (q : Runs (opened t) ds qs j)
   where
     pub demand3-lists :
-        livePoints (after (started s) cs) ≡ livePoints (after (started t) ds)
-        → (after (started s) cs .gaps ≡ after (started t) ds .gaps) ↔ SameTimetables k j
+        livePoints (boardAfter (started s) cs) ≡ livePoints (boardAfter (started t) ds)
+        → (boardAfter (started s) cs .gaps ≡ boardAfter (started t) ds .gaps) ↔ SameTimetables k j
     demand3-lists same =
         let both = demand3 s t good fine cs ds rs qs k j p q same in (
           λ e. both .0 (λ i n hi hn. ap (λ (l : List ℕ). cell l i n) e),
@@ -81,6 +81,6 @@ module _
         )
 
     pub demand3-books :
-        liveCount (k .state) ≡ liveCount (j .state) → SameCells (after (started s) cs) (after (started t) ds) ↔ SameTimetables k j
+        liveCount (k .state) ≡ liveCount (j .state) → SameCells (boardAfter (started s) cs) (boardAfter (started t) ds) ↔ SameTimetables k j
     demand3-books same =
         demand3 s t good fine cs ds rs qs k j p q (agreement s good cs .points rs k p ∙ same ∙ sym (agreement t fine ds .points qs j q))

@@ -10,7 +10,7 @@ use lib.ListN.{length, length-append, length-set}
 use Rattle.base_rulings.specs.Answer.{cause}
 use Rattle.spec_plain.specs.Limits.{mostJobs, mostPoints, resources, mostUses}
 use Rattle.spec_plain.specs.declared.Settings.{Settings}
-use Rattle.spec_plain.specs.declared.Put.{Put}
+use Rattle.spec_plain.specs.declared.Allocation.{Allocation}
 use Rattle.spec_plain.specs.declared.Rule.{Rule}
 use Rattle.spec_plain.specs.declared.Use.{Use}
 use Rattle.spec_plain.specs.Plain.{
@@ -21,7 +21,7 @@ use Rattle.spec_plain.specs.Plain.{
   total,
   liveCount,
   full,
-  pointsOf,
+  newPoints,
   jobFrom,
   usedFrom,
   inserted,
@@ -39,7 +39,7 @@ use Rattle.part_sound.specs.Sound.{SizedJob, SizedUse}
 use Rattle.theorem_demands.proofs.Jobs.{total-append}
 use Rattle.theorem_demands.proofs.Sent.{first-append}
 use Rattle.theorem_agreement.proofs.Parts.{SizedLine, Limits}
-use Rattle.part_offered.specs.Sized.{SizedPut, SizedOffer}
+use Rattle.part_offered.specs.Sized.{SizedAllocation, SizedOffer}
 
 -- ---- lines
 
@@ -65,25 +65,25 @@ PlacedSized n (Placed.stop c) = Unit {0}
 PlacedSized n (Placed.done ls rs) = (length ls ≡ resources) × All (SizedLine n) ls
 
 -- what holds of the allocations left and the lines so far; k is the number of the job's steps
-abbrev BeforeSized : ℕ → ℕ → List Put → List (List Use) → List Rule → Type 0
-BeforeSized n k ps ls rs = All (SizedPut k) ps × (length ls ≡ resources) × All (SizedLine n) ls
+abbrev BeforeSized : ℕ → ℕ → List Allocation → List (List Use) → List Rule → Type 0
+BeforeSized n k ps ls rs = All (SizedAllocation k) ps × (length ls ≡ resources) × All (SizedLine n) ls
 
 -- x is p0 of the job, and g the board's settings
 placed-sized :
-    (g : Settings) (n x k i : ℕ) (ps : List Put) (ls : List (List Use)) (rs : List Rule) → 0 < x → x + k ≤ suc n
-    → All (SizedPut k) ps → length ls ≡ resources → All (SizedLine n) ls → PlacedSized n (placed g x i ps ls rs)
+    (g : Settings) (n x k i : ℕ) (ps : List Allocation) (ls : List (List Use)) (rs : List Rule) → 0 < x → x + k ≤ suc n
+    → All (SizedAllocation k) ps → length ls ≡ resources → All (SizedLine n) ls → PlacedSized n (placed g x i ps ls rs)
 unfolding PlacedSized usedFrom
 placed-sized g n x k i ps ls rs z le a e b =
     placed-keeps g x (BeforeSized n k) (PlacedSized n) (λ c. (tt, tt)) (λ ks qs h. (h .1, h .2)) next i ps ls rs (a, e, b)
   where
-    use-sized : (p : Put) → SizedPut k p → SizedUse n (usedFrom x p)
+    use-sized : (p : Allocation) → SizedAllocation k p → SizedUse n (usedFrom x p)
     use-sized p s =
         let at = s .step in
         let r = s .readable in
         record { not-origin = omega arith; live = omega (arith, at); offset = r .offset; some = s .some; length = r .length }
 
     next :
-        (p : Put) (ps : List Put) (ls : List (List Use)) (rs : List Rule) → p .place ≤ length (lineFor ls p) → length (lineFor ls p) < mostUses
+        (p : Allocation) (ps : List Allocation) (ls : List (List Use)) (rs : List Rule) → p .place ≤ length (lineFor ls p) → length (lineFor ls p) < mostUses
         → BeforeSized n k (p ∷ ps) ls rs → BeforeSized n k ps (linesWith x ls p) (rs ++ rulesFor g x ls p)
     next p ps ls rs fits room h =
         let line = lineFor ls p in
@@ -105,12 +105,12 @@ DraftSized s (Draft.stop c) = Unit {0}
 DraftSized s (Draft.go next n rs) = Limits next × (next .settings ≡ s .settings)
 
 module _ {s : State} (p : Limits s) (o : Offer) (sized : SizedOffer o) where
-  joined-total : total (s .jobs ++ (jobFrom o ∷ [])) ≡ total (s .jobs) + pointsOf o
+  joined-total : total (s .jobs ++ (jobFrom o ∷ [])) ≡ total (s .jobs) + newPoints o
   unfolding total
   joined-total = omega (arith, total-append (s .jobs) (jobFrom o ∷ []))
 
   joining-sized :
-      (q : Placed) → length (s .jobs) < mostJobs → total (s .jobs) + pointsOf o ≤ mostPoints → PlacedSized (total (s .jobs) + pointsOf o) q
+      (q : Placed) → length (s .jobs) < mostJobs → total (s .jobs) + newPoints o ≤ mostPoints → PlacedSized (total (s .jobs) + newPoints o) q
       → DraftSized s (joining s o q)
   unfolding DraftSized joining PlacedSized
   joining-sized (Placed.stop c) few points a = tt
@@ -134,16 +134,16 @@ module _ {s : State} (p : Limits s) (o : Offer) (sized : SizedOffer o) where
 
   pub drafted-sized : DraftSized s (drafted s o)
   unfolding DraftSized drafted liveCount
-  drafted-sized = go (full s (pointsOf o)) refl
+  drafted-sized = go (full s (newPoints o)) refl
     where
       points : ℕ
-      points = total (s .jobs) + pointsOf o
+      points = total (s .jobs) + newPoints o
 
-      go : (b : Bool) → full s (pointsOf o) ≡ b
-          → DraftSized s (cond b (Draft.stop (cause 14 0)) (joining s o (placed (s .settings) (liveCount s) 0 (o .puts) (s .lines) [])))
+      go : (b : Bool) → full s (newPoints o) ≡ b
+          → DraftSized s (cond b (Draft.stop (cause 14 0)) (joining s o (placed (s .settings) (liveCount s) 0 (o .allocations) (s .lines) [])))
       go true e = tt
       go false e =
-          let room = within s (pointsOf o) e in
-          joining-sized (placed (s .settings) (liveCount s) 0 (o .puts) (s .lines) []) (room .0) (room .1)
-          (placed-sized (s .settings) points (liveCount s) (length (o .steps)) 0 (o .puts) (s .lines) [] (omega arith) (omega arith) (sized .puts) (p .sixteen)
+          let room = within s (newPoints o) e in
+          joining-sized (placed (s .settings) (liveCount s) 0 (o .allocations) (s .lines) []) (room .0) (room .1)
+          (placed-sized (s .settings) points (liveCount s) (length (o .steps)) 0 (o .allocations) (s .lines) [] (omega arith) (omega arith) (sized .allocations) (p .sixteen)
           (all-map (SizedLine (total (s .jobs))) (SizedLine points) (line-wider (total (s .jobs)) points (omega arith)) (s .lines) (p .lines)))

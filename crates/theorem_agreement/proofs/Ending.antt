@@ -18,11 +18,11 @@ use Rattle.spec_plain.specs.Plain.{endOf, overBy, goes, endsBy, allEndBy}
 use Rattle.spec_plain.specs.Rules.{Times, AllKept}
 use Rattle.spec_plain.proofs.Whole.{up, dn, of-below, add-spec}
 use Rattle.spec_plain.proofs.Rules.{Keeps, KeepsAll, keeps-to, keeps-append}
-use Rattle.spec_stn.specs.Table.{bias, Table, implied}
+use Rattle.spec_stn.specs.Table.{bias, Table, entailsAll}
 use Rattle.spec_stn.proofs.Fits.{implied-append}
 use Rattle.spec_stn.proofs.Pick.{Number, leaves, stays, number, goes-yes}
 use Rattle.theorem_agreement.specs.Timetables.{In}
-use Rattle.theorem_agreement.specs.Retire.{Held}
+use Rattle.theorem_agreement.specs.Retire.{InLines}
 
 -- ---- rules that are kept
 
@@ -60,7 +60,7 @@ module _ (s : Settings) (c m : ℕ) (u : Times) (o : u 0 ≡ pos 0) where
       go false e k (inr i) rest = rest k x i lo hi
 
   pub over-lines :
-      (ls : List (List Use)) → KeepsAll u (allEndBy s c 1 m ls) → (x : Use) → Held x ls → 1 ≤ x .point → x .point ≤ m
+      (ls : List (List Use)) → KeepsAll u (allEndBy s c 1 m ls) → (x : Use) → InLines x ls → 1 ≤ x .point → x .point ≤ m
       → (u (x .point) +ℤ pos (endOf s x)) ≤ℤ pos c
   unfolding AllKept allEndBy
   over-lines [] k x i lo hi = absurd i
@@ -78,8 +78,8 @@ module _ (s : Settings) (t : Table) (c m : ℕ) where
   abbrev pub Late : Use → Type 0
   Late x = (1 ≤ x .point) × (x .point ≤ m) × (bias + c < t 0 (x .point) + endOf s x)
 
-  late-line : (us : List Use) → implied t (endsBy s c 1 m us) ≡ false → (x : Use) × In x us × Late x
-  unfolding implied endsBy overBy
+  late-line : (us : List Use) → entailsAll t (endsBy s c 1 m us) ≡ false → (x : Use) × In x us × Late x
+  unfolding entailsAll endsBy overBy
   late-line [] e = absurd (true≢false e)
   late-line (y ∷ us) e = go (number 1 m (y .point)) (late-line us)
     where
@@ -88,24 +88,24 @@ module _ (s : Settings) (t : Table) (c m : ℕ) where
 
       one :
           1 ≤ y .point → y .point ≤ m
-          → (leb (t 0 (y .point) + endOf s y) (bias + c) ≡ false) ⊎ (implied t (endsBy s c 1 m us) ≡ false)
-          → (implied t (endsBy s c 1 m us) ≡ false → (x : Use) × In x us × Late x) → (x : Use) × In x (y ∷ us) × Late x
+          → (leb (t 0 (y .point) + endOf s y) (bias + c) ≡ false) ⊎ (entailsAll t (endsBy s c 1 m us) ≡ false)
+          → (entailsAll t (endsBy s c 1 m us) ≡ false → (x : Use) × In x us × Late x) → (x : Use) × In x (y ∷ us) × Late x
       one lo hi (inl f) rest = (y, inl refl, (lo, hi, leb-false _ _ f))
       one lo hi (inr f) rest = further (rest f)
 
-      go : Number 1 m (y .point) → (implied t (endsBy s c 1 m us) ≡ false → (x : Use) × In x us × Late x) → (x : Use) × In x (y ∷ us) × Late x
+      go : Number 1 m (y .point) → (entailsAll t (endsBy s c 1 m us) ≡ false → (x : Use) × In x us × Late x) → (x : Use) × In x (y ∷ us) × Late x
       go (leaves lo hi g) rest = one lo (omega arith) (both-false (leb (t 0 (y .point) + endOf s y) (bias + c)) _ (rw g at e)) rest
       go (stays is g) rest = further (rest (rw g at e))
 
-  pub late-lines : (ls : List (List Use)) → implied t (allEndBy s c 1 m ls) ≡ false → (x : Use) × Held x ls × Late x
-  unfolding implied allEndBy
+  pub late-lines : (ls : List (List Use)) → entailsAll t (allEndBy s c 1 m ls) ≡ false → (x : Use) × InLines x ls × Late x
+  unfolding entailsAll allEndBy
   late-lines [] e = absurd (true≢false e)
   late-lines (us ∷ ls) e =
-      go (both-false (implied t (endsBy s c 1 m us)) (implied t (allEndBy s c 1 m ls)) (sym (implied-append t (endsBy s c 1 m us) (allEndBy s c 1 m ls)) ∙ e))
+      go (both-false (entailsAll t (endsBy s c 1 m us)) (entailsAll t (allEndBy s c 1 m ls)) (sym (implied-append t (endsBy s c 1 m us) (allEndBy s c 1 m ls)) ∙ e))
       (late-lines ls)
     where
       go :
-          (implied t (endsBy s c 1 m us) ≡ false) ⊎ (implied t (allEndBy s c 1 m ls) ≡ false)
-          → (implied t (allEndBy s c 1 m ls) ≡ false → (x : Use) × Held x ls × Late x) → (x : Use) × Held x (us ∷ ls) × Late x
+          (entailsAll t (endsBy s c 1 m us) ≡ false) ⊎ (entailsAll t (allEndBy s c 1 m ls) ≡ false)
+          → (entailsAll t (allEndBy s c 1 m ls) ≡ false → (x : Use) × InLines x ls × Late x) → (x : Use) × InLines x (us ∷ ls) × Late x
       go (inl f) rest = let q = late-line us f in (q .0, inl (q .1), q .2)
       go (inr f) rest = let q = rest f in (q .0, inr (q .1), q .2)

@@ -14,7 +14,7 @@ use Prim.Native.Nat.{ℕ}
 use Rattle.base_rulings.specs.declared.Ruling.{Ruling}
 use Rattle.base_rulings.specs.declared.Ruling.the-variants.{Accepted}
 use Rattle.base_rulings.specs.Answer.{plain}
-use Rattle.base_rulings.proofs.Laws.{refused-no}
+use Rattle.base_rulings.proofs.RulingLaws.{refused-no}
 use lib.IntN.{ℤ}
 use Rattle.spec_plain.specs.declared.Rule.{Rule}
 use Rattle.spec_plain.specs.Plain.{State}
@@ -22,7 +22,7 @@ use Rattle.spec_plain.specs.Rules.{Times}
 use Rattle.spec_plain.proofs.Rules.{KeepsAll}
 use Rattle.spec_stn.specs.Table.{soonest}
 use Rattle.part_gaps.specs.Cells.{tableOf}
-use Rattle.spec_rulebook.specs.Book.{Book, Possible, SomePossible, LeastTime, GreatestTime, LargestGap, made, Refuses, Guarded, Settles}
+use Rattle.spec_rulebook.specs.Book.{Book, Possible, Consistent, LeastTime, GreatestTime, LargestGap, made, Refuses, Guarded, Settles}
 use Rattle.part_boardwords.specs.Board.{Board}
 use Rattle.part_sound.specs.Sound.{Sound}
 use Rattle.call_board.specs.Ruled.{Ruled}
@@ -85,12 +85,12 @@ module _ (b : Board) (w : Shaped b) (s : Sound b) where
     abbrev pub Meant : Times → Type 0
     Meant u = Timetable b u × KeepsAll u qs
 
-    some-meant : SomePossible (made next (bookOf b) qs) → Some Meant
-    unfolding SomePossible
+    some-meant : Consistent (made next (bookOf b) qs) → Some Meant
+    unfolding Consistent
     some-meant p = (p .0, made-meant next qs (p .0) .0 (p .1))
 
-    none-meant : ¬ (SomePossible (made next (bookOf b) qs)) → ¬ (Some Meant)
-    unfolding SomePossible
+    none-meant : ¬ (Consistent (made next (bookOf b) qs)) → ¬ (Some Meant)
+    unfolding Consistent
     none-meant p q = p (q .0, made-meant next qs (q .0) .1 (q .1))
 
     pub settled-decided :

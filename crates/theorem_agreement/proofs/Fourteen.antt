@@ -17,7 +17,7 @@ use Rattle.base_rulings.specs.declared.Ruling.the-variants.{Refused}
 use Rattle.base_rulings.specs.Answer.{plain, refuse, numberOf}
 use Rattle.spec_plain.specs.Limits.{mostJobs, mostPoints}
 use Rattle.spec_plain.specs.declared.Settings.{Settings}
-use Rattle.spec_plain.specs.declared.Put.{Put}
+use Rattle.spec_plain.specs.declared.Allocation.{Allocation}
 use Rattle.spec_plain.specs.declared.Rule.{Rule}
 use Rattle.spec_plain.specs.declared.Use.{Use}
 use Rattle.spec_plain.specs.Plain.{
@@ -28,7 +28,7 @@ use Rattle.spec_plain.specs.Plain.{
   total,
   liveCount,
   full,
-  pointsOf,
+  newPoints,
   placed,
   joining,
   drafted,
@@ -69,7 +69,7 @@ unfoldable pub Other : Placed → Type 0
 Other (Placed.stop c) = 15 ≤ numberOf (Refused c)
 Other (Placed.done ls rs) = Unit {0}
 
-pub placed-other : (s : Settings) (x i : ℕ) (ps : List Put) (ls : List (List Use)) (rs : List Rule) → Other (placed s x i ps ls rs)
+pub placed-other : (s : Settings) (x i : ℕ) (ps : List Allocation) (ls : List (List Use)) (rs : List Rule) → Other (placed s x i ps ls rs)
 unfolding Other
 placed-other s x i ps ls rs =
     placed-keeps s x (λ ps ls rs. Unit {0}) Other (λ k. (omega arith, omega arith)) (λ ls rs h. tt) (λ p ps ls rs fits room h. tt) i ps ls rs tt
@@ -86,15 +86,15 @@ module _ (b : Board) (o : Offer) where
   joining-other (Placed.done ls rs) other e = settled-other _ _ e
 
   pub decided-14 :
-      length (stateOf b .jobs) ≤ mostJobs → (decided b (drafted (stateOf b) o) .ruling ≡ refuse 14) ↔ NoRoom (stateOf b) (pointsOf o)
+      length (stateOf b .jobs) ≤ mostJobs → (decided b (drafted (stateOf b) o) .ruling ≡ refuse 14) ↔ NoRoom (stateOf b) (newPoints o)
   unfolding drafted decided
   decided-14 le =
-      let p = go (full (stateOf b) (pointsOf o)) in
-      (λ e. full-to (stateOf b) (pointsOf o) le (p .0 e), λ h. p .1 (full-of (stateOf b) (pointsOf o) h))
+      let p = go (full (stateOf b) (newPoints o)) in
+      (λ e. full-to (stateOf b) (newPoints o) le (p .0 e), λ h. p .1 (full-of (stateOf b) (newPoints o) h))
     where
       q : Placed
-      q = placed (stateOf b .settings) (liveCount (stateOf b)) 0 (o .puts) (stateOf b .lines) []
+      q = placed (stateOf b .settings) (liveCount (stateOf b)) 0 (o .allocations) (stateOf b .lines) []
 
       go : (t : Bool) → (decided b (cond t (Draft.stop (plain 14)) (joining (stateOf b) o q)) .ruling ≡ refuse 14) ↔ (t ≡ true)
       go true = (λ e. refl, λ e. refl)
-      go false = (λ e. absurd (joining-other q (placed-other (stateOf b .settings) (liveCount (stateOf b)) 0 (o .puts) (stateOf b .lines) []) e), λ e. absurd (false≢true e))
+      go false = (λ e. absurd (joining-other q (placed-other (stateOf b .settings) (liveCount (stateOf b)) 0 (o .allocations) (stateOf b .lines) []) e), λ e. absurd (false≢true e))

@@ -16,14 +16,14 @@ use Rattle.base_rulings.specs.declared.Ruling.{Ruling}
 use Rattle.base_rulings.specs.declared.Ruling.the-variants.{Accepted, Refused}
 use Rattle.base_rulings.specs.Answer.{plain, refuse}
 use Rattle.base_rulings.specs.Order.{ifAccepted}
-use Rattle.base_rulings.proofs.Laws.{refused-no}
+use Rattle.base_rulings.proofs.RulingLaws.{refused-no}
 use Rattle.read_plant.specs.Plant.{plantRuling}
 use Rattle.spec_plain.specs.Limits.{mostJobs, resources, mostUses, cellCount}
 use Rattle.spec_plain.specs.declared.Use.{Use}
 use Rattle.spec_plain.specs.Plain.{State, Draft, Leaving, drafted, leaving, liveCount, unsentAt, sentState, clockOk, clockState, noUse}
-use Rattle.part_lines.specs.Held.{noJob, noLine, lineFrom, linesFrom}
+use Rattle.part_lines.specs.ArrayLists.{noJob, noLine, lineFrom, linesFrom}
 use Rattle.part_lines.proofs.Padded.{length-padded}
-use Rattle.spec_stn.specs.Table.{bias, implied}
+use Rattle.spec_stn.specs.Table.{bias, entailsAll}
 use Rattle.part_gaps.specs.Cells.{tableOf, dropped}
 use Rattle.spec_rulebook.specs.Book.{Call, plan, send, clock, retire, emptyLines, fresh}
 use Rattle.spec_rulebook.specs.Reading.{Reading, bad, good, readingOf}
@@ -33,18 +33,18 @@ use Rattle.part_boardwords.specs.Layout.{boardSize}
 use Rattle.part_boardwords.specs.Words.{Words, boardIn, boardRead, lentBoard, wordIn, zeros, jobAt, lineAt, cellAt}
 use Rattle.part_boardwords.specs.Codec.{wordsOf}
 use Rattle.part_boardwords.proofs.Back.{board-back}
-use Rattle.part_boardwords.proofs.Put.{length-words}
+use Rattle.part_boardwords.proofs.Overwritten.{length-words}
 use Rattle.part_sound.specs.Sound.{Sound, sound}
 use Rattle.part_sound.proofs.Soundness.{sound-to}
 use Rattle.part_sound.proofs.InWords.{lent-is}
 use Rattle.call_board.specs.Ruled.{Ruled}
 use Rattle.spec_plain.specs.declared.Settings.{Settings}
 use Rattle.call_board.specs.Boards.{stateOf, boardOf, badSettings, freshCells, freshBoard, zeroBoard, freshRuled}
-use Rattle.call_board.specs.Calls.{refused, refusal, accepted, settled, after, decided, heard, planned, sent, clocked, left, retired}
+use Rattle.call_board.specs.Calls.{refusedWith, refusal, accepted, settled, unlessRefused, decided, heard, planned, sent, clocked, departed, retired}
 use Rattle.call_board.specs.InWords.{wordsAfter, freshRuling, freshWords}
 use Rattle.call_board.proofs.FreshSound.{fresh-sound}
 use Rattle.theorem_agreement.specs.Abstract.{Shaped}
-use Rattle.theorem_agreement.specs.Runs.{answer}
+use Rattle.theorem_agreement.specs.Runs.{callRuled}
 use Rattle.theorem_agreement.proofs.Agreement.{call-sound}
 
 abbrev pub GivenBack : List ℕ → Ruled → Type 0
@@ -55,7 +55,7 @@ GivenBack w r = r .ruling ≡ Accepted → lentBoard (wordsAfter w r) ≡ r .boa
 abbrev Made : Ruled → Type 0
 Made r = r .ruling ≡ Accepted → (s : State) × (l : List ℕ) × (r .board ≡ boardOf s l)
 
-made-refused : (b : Board) (c : Cause) → Made (refused b c)
+made-refused : (b : Board) (c : Cause) → Made (refusedWith b c)
 made-refused b c e = absurd (refused-no c e)
 
 made-settled : (b : Board) (n : ℕ) (s : State) (o : Option (List ℕ)) → Made (settled b n s o)
@@ -81,10 +81,10 @@ unfolding heard
 made-heard b (bad c) e = made-refused b c e
 made-heard b (good o) e = made-decided b (drafted (stateOf b) o) e
 
-made-left : (b : Board) (x : Leaving) → Made (left b x)
-unfolding left
+made-left : (b : Board) (x : Leaving) → Made (departed b x)
+unfolding departed
 made-left b Leaving.stop = made-refused b (plain 21)
-made-left b (Leaving.go m rs s) = go (implied (tableOf (b .gaps)) rs)
+made-left b (Leaving.go m rs s) = go (entailsAll (tableOf (b .gaps)) rs)
   where
     l : List ℕ
     l = dropped (b .gaps) 1 m (liveCount (stateOf b))
@@ -108,13 +108,13 @@ unfolding retired
 made-retired b = made-after (not (sound b)) b 6 _ (made-left b (leaving (stateOf b)))
 
 made-planned : (b : Board) (p o : List ℕ) → Made (planned b p o)
-unfolding planned after
+unfolding planned unlessRefused
 made-planned b p o = go (plantRuling p)
   where
     rest : Ruled
     rest = cond (not (sound b)) (refusal b 6) (heard b (readingOf (stateOf b) p o))
 
-    go : (r : Ruling) → Made (after r b rest)
+    go : (r : Ruling) → Made (unlessRefused r b rest)
     go Accepted = made-after (not (sound b)) b 6 (heard b (readingOf (stateOf b) p o)) (made-heard b (readingOf (stateOf b) p o))
     go (Refused c) = made-refused b c
 
@@ -150,13 +150,13 @@ sound-first b r = go (sound b)
     go false e = absurd (refused-no (plain 6) e)
 
 planned-sound : (b : Board) (p o : List ℕ) → planned b p o .ruling ≡ Accepted → sound b ≡ true
-unfolding planned after
+unfolding planned unlessRefused
 planned-sound b p o = go (plantRuling p)
   where
     rest : Ruled
     rest = cond (not (sound b)) (refusal b 6) (heard b (readingOf (stateOf b) p o))
 
-    go : (r : Ruling) → after r b rest .ruling ≡ Accepted → sound b ≡ true
+    go : (r : Ruling) → unlessRefused r b rest .ruling ≡ Accepted → sound b ≡ true
     go Accepted e = sound-first b (heard b (readingOf (stateOf b) p o)) e
     go (Refused c) e = absurd (refused-no c e)
 
@@ -177,7 +177,7 @@ module _ (w : List ℕ) where
       go false = read-shaped zeros
 
   call-stands :
-      (call : Call) (r : Ruled) → r ≡ answer (lentBoard w) call → sound (lentBoard w) ≡ true → Made r → r .ruling ≡ Accepted
+      (call : Call) (r : Ruled) → r ≡ callRuled (lentBoard w) call → sound (lentBoard w) ≡ true → Made r → r .ruling ≡ Accepted
       → lentBoard (wordsOf (r .board)) ≡ r .board
   call-stands call r is passes made e =
       let q = call-sound (lentBoard w) shaped (sound-to (lentBoard w) (shaped .lines) passes) call r is in
@@ -189,25 +189,25 @@ module _ (w : List ℕ) where
   back r holds e = ap (λ (x : Ruling). lentBoard (ifAccepted x (wordsOf (r .board)) w)) e ∙ holds e
 
   pub plan-back : (p o : List ℕ) → GivenBack w (planned (lentBoard w) p o)
-  unfolding answer
+  unfolding callRuled
   plan-back p o =
       let b = lentBoard w in
       back (planned b p o) (λ e. call-stands (plan p o) (planned b p o) refl (planned-sound b p o e) (made-planned b p o) e)
 
   pub send-back : (place : ℕ) → GivenBack w (sent (lentBoard w) place)
-  unfolding answer sent
+  unfolding callRuled sent
   send-back place =
       let b = lentBoard w in
       back (sent b place) (λ e. call-stands (send place) (sent b place) refl (sound-first b _ e) (made-sent b place) e)
 
   pub clock-back : (c : ℕ) → GivenBack w (clocked (lentBoard w) c)
-  unfolding answer clocked
+  unfolding callRuled clocked
   clock-back c =
       let b = lentBoard w in
       back (clocked b c) (λ e. call-stands (clock c) (clocked b c) refl (sound-first b _ e) (made-clocked b c) e)
 
   pub retire-back : GivenBack w (retired (lentBoard w))
-  unfolding answer retired
+  unfolding callRuled retired
   retire-back =
       let b = lentBoard w in back (retired b) (λ e. call-stands retire (retired b) refl (sound-first b _ e) (made-retired b) e)
 

@@ -34,10 +34,10 @@ use Rattle.part_sound.proofs.Soundness.{sound-of}
 use Rattle.part_settling.specs.Settled.{addedAll, addedEach}
 use Rattle.call_board.specs.Ruled.{Ruled}
 use Rattle.call_board.specs.Boards.{stateOf}
-use Rattle.call_board.specs.Calls.{refused, refusal, accepted, settled, after, decided, heard, planned, sendRules, sent, clocked}
-use Rattle.theorem_demands.specs.Model.{Answer}
+use Rattle.call_board.specs.Calls.{refusedWith, refusal, accepted, settled, unlessRefused, decided, heard, planned, sendRules, sent, clocked}
+use Rattle.theorem_demands.specs.Model.{AbstractRuled}
 use Rattle.theorem_demands.specs.Model as Model
-use Rattle.theorem_demands.specs.Beside.{Holds, Mirrors}
+use Rattle.theorem_demands.specs.Beside.{StandsFor, Mirrors}
 use Rattle.theorem_demands.proofs.Tries.{live-positive}
 use Rattle.theorem_demands.proofs.Clock.{starts-within, clock-mirrors}
 use Rattle.theorem_demands.proofs.Send.{live-sent, send-within, send-added, send-some, send-mirrors}
@@ -52,7 +52,7 @@ use Rattle.part_offered.proofs.Sized.{checked-sized}
 use Rattle.theorem_agreement.proofs.Drafts.{DraftSized, drafted-sized}
 use Rattle.theorem_agreement.proofs.States.{sent-limits, clock-limits, live-few}
 
-pub record Answered (a : Ruled) (m : Answer) : Type 0 where
+pub record Answered (a : Ruled) (m : AbstractRuled) : Type 0 where
   pub ruling : a .ruling ≡ m .ruling
   pub state : stateOf (a .board) ≡ m .board .state
   pub cells : Agree (liveCount (m .board .state)) (tableOf (a .board .gaps)) (m .board .table)
@@ -65,11 +65,11 @@ module _ (b : Board) (w : Shaped b) (s : Sound b) where
   parts : Parts (stateOf b) (b .gaps)
   parts = parts-of b w s
 
-  holds : Holds (stateOf b) (tableOf (b .gaps)) (tableRules (b .gaps) (livePoints b) (livePoints b))
+  holds : StandsFor (stateOf b) (tableOf (b .gaps)) (tableRules (b .gaps) (livePoints b) (livePoints b))
   holds = parts-holds parts
 
-  pub refused-answered : (c : Cause) → Answered (refused b c) (Model.refusal (abstractOf b) c)
-  unfolding Model.refusal
+  pub refused-answered : (c : Cause) → Answered (refusedWith b c) (Model.refusedWith (abstractOf b) c)
+  unfolding Model.refusedWith
   refused-answered c = record { ruling = refl; state = refl; cells = λ i j hi hj. refl; shaped = w; sound = s }
 
   -- that the points of sent jobs stand still comes from the book beside the abstract board
@@ -91,8 +91,8 @@ module _ (b : Board) (w : Shaped b) (s : Sound b) where
 
   -- ---- plan
 
-  draft-answered : (q : Draft) → DraftIn (stateOf b) q → DraftSized (stateOf b) q → Answered (decided b q) (Model.planned (abstractOf b) q)
-  unfolding decided Model.planned DraftIn DraftSized
+  draft-answered : (q : Draft) → DraftIn (stateOf b) q → DraftSized (stateOf b) q → Answered (decided b q) (Model.decided (abstractOf b) q)
+  unfolding decided Model.decided DraftIn DraftSized
   draft-answered (Draft.stop c) i z = refused-answered c
   draft-answered (Draft.go next m rs) i z =
       let n : ℕ = livePoints b in
@@ -111,12 +111,12 @@ module _ (b : Board) (w : Shaped b) (s : Sound b) where
       _ (plan-mirrors holds (Draft.go next m rs) i)
 
   pub planned-is : (p o : List ℕ) → planned b p o ≡ heard b (readingOf (stateOf b) p o)
-  unfolding planned after heard readingOf past
+  unfolding planned unlessRefused heard readingOf past
   planned-is p o = rw (sound-of b (w .lines) s) (go (plantRuling p) refl)
     where
       go :
           (r : Ruling) → plantRuling p ≡ r
-          → after (plantRuling p) b (heard b (readingOf (stateOf b) p o)) ≡ heard b (readingOf (stateOf b) p o)
+          → unlessRefused (plantRuling p) b (heard b (readingOf (stateOf b) p o)) ≡ heard b (readingOf (stateOf b) p o)
       go Accepted e = rw e
       go (Refused c) e = rw e
 
@@ -178,7 +178,7 @@ module _ (b : Board) (w : Shaped b) (s : Sound b) where
       go :
           (t : Bool)
           → Answered (cond (not t) (refusal b 18) (accepted next (addedEach rules n (b .gaps))))
-          (elim t [ true ↦ Model.sending (abstractOf b) place | false ↦ Model.refusal (abstractOf b) (plain 18) ])
+          (elim t [ true ↦ Model.sending (abstractOf b) place | false ↦ Model.refusedWith (abstractOf b) (plain 18) ])
       go true = sending
       go false = refused-answered (plain 18)
 
@@ -197,7 +197,7 @@ module _ (b : Board) (w : Shaped b) (s : Sound b) where
       go :
           (t : Bool) → clockOk (stateOf b) c ≡ t
           → Answered (cond (not t) (refusal b 19) (settled b 20 (clockState (stateOf b) c) (addedAll rules n (b .gaps))))
-          (elim t [ true ↦ Model.clocking (abstractOf b) c | false ↦ Model.refusal (abstractOf b) (plain 19) ])
+          (elim t [ true ↦ Model.clocking (abstractOf b) c | false ↦ Model.refusedWith (abstractOf b) (plain 19) ])
       go true e =
           let few = live-few (parts .limits) in
           let within = starts-within n (c + b .settings .lead) (stateOf b .jobs) 1 (holds .jobs) (live-positive (stateOf b)) (omega arith) in

@@ -15,7 +15,7 @@ use Rattle.base_rulings.specs.declared.Ruling.the-variants.{Accepted}
 use Rattle.base_rulings.specs.Answer.{numberOf}
 use Rattle.spec_plain.specs.Limits.{mostJobs, cellCount}
 use Rattle.spec_plain.specs.Plain.{total, liveCount}
-use Rattle.part_lines.specs.Held.{noJob}
+use Rattle.part_lines.specs.ArrayLists.{noJob}
 use Rattle.part_lines.proofs.Padded.{length-padded}
 use Rattle.spec_stn.specs.Table.{bias, soonest}
 use Rattle.part_gaps.specs.Cells.{cell, tableOf}
@@ -32,7 +32,7 @@ use Rattle.theorem_demands.specs.Beside.{Sim}
 use Rattle.theorem_demands.proofs.Step.{fresh-sim}
 use Rattle.theorem_demands.proofs.Runs.{book-some}
 use Rattle.theorem_agreement.specs.Abstract.{Shaped, abstractOf}
-use Rattle.theorem_agreement.specs.Runs.{started, opened, answer, after, rulings, Agreement}
+use Rattle.theorem_agreement.specs.Runs.{started, opened, callRuled, boardAfter, rulings, Agreement}
 use Rattle.theorem_agreement.proofs.Keeps.{Answered}
 use Rattle.theorem_agreement.proofs.Agreement.{carried, call-sound, call-agrees}
 use Rattle.theorem_agreement.proofs.Exact.{sim-same}
@@ -41,29 +41,29 @@ use Rattle.theorem_agreement.proofs.Six.{Not6, call-6}
 
 -- ---- from any sound board
 
-pub lists-sound : (cs : List Call) (b : Board) → Shaped b → Sound b → Shaped (after b cs) × Sound (after b cs)
-unfolding after
+pub lists-sound : (cs : List Call) (b : Board) → Shaped b → Sound b → Shaped (boardAfter b cs) × Sound (boardAfter b cs)
+unfolding boardAfter
 lists-sound [] b w s = (w, s)
 lists-sound (c ∷ cs) b w s =
-    let q = call-sound b w s c (answer b c) refl in
-    lists-sound cs (answer b c .board) (q .0) (q .1)
+    let q = call-sound b w s c (callRuled b c) refl in
+    lists-sound cs (callRuled b c .board) (q .0) (q .1)
 
 lists-6 : (cs : List Call) (b : Board) → Shaped b → Sound b → All Not6 (rulings b cs)
 unfolding rulings
 lists-6 [] b w s = tt
 lists-6 (c ∷ cs) b w s =
-    let q = call-sound b w s c (answer b c) refl in
-    (call-6 b w s c, lists-6 cs (answer b c .board) (q .0) (q .1))
+    let q = call-sound b w s c (callRuled b c) refl in
+    (call-6 b w s c, lists-6 cs (callRuled b c .board) (q .0) (q .1))
 
 pub lists-keep :
     (cs : List Call) (b : Board) (bk : Book) → Shaped b → Sound b → Sim (abstractOf b) bk → (rs : List Ruling) (k : Book)
-    → Runs bk cs rs k → (rs ≡ rulings b cs) × Sim (abstractOf (after b cs)) k
-unfolding Runs rulings after
+    → Runs bk cs rs k → (rs ≡ rulings b cs) × Sim (abstractOf (boardAfter b cs)) k
+unfolding Runs rulings boardAfter
 lists-keep [] b bk w s x rs k p = (p .0, rw (p .1) x)
 lists-keep (c ∷ cs) b bk w s x rs k p =
-    let q = call-sound b w s c (answer b c) refl in
-    let one = call-agrees b w s bk x c (answer b c) refl .keeps (p .0) (p .1) (p .3) in
-    let rest = lists-keep cs (answer b c .board) (p .1) (q .0) (q .1) (one .1) (p .2) k (p .5) in
+    let q = call-sound b w s c (callRuled b c) refl in
+    let one = call-agrees b w s bk x c (callRuled b c) refl .keeps (p .0) (p .1) (p .3) in
+    let rest = lists-keep cs (callRuled b c .board) (p .1) (q .0) (q .1) (one .1) (p .2) k (p .5) in
     (p .4 ∙ ap₂ _∷_ (one .0) (rest .0), rest .1)
 
 pub lists-exist :
@@ -71,12 +71,12 @@ pub lists-exist :
 unfolding Runs rulings
 lists-exist [] b bk w s x = (bk, (refl, refl))
 lists-exist (c ∷ cs) b bk w s x =
-    let q = call-sound b w s c (answer b c) refl in
-    let agreed = call-agrees b w s bk x c (answer b c) refl in
+    let q = call-sound b w s c (callRuled b c) refl in
+    let agreed = call-agrees b w s bk x c (callRuled b c) refl in
     let out = agreed .exists in
-    let y = agreed .keeps (answer b c .ruling) (out .0) (out .1) .1 in
-    let rest = lists-exist cs (answer b c .board) (out .0) (q .0) (q .1) y in
-    (rest .0, (answer b c .ruling, out .0, rulings (answer b c .board) cs, out .1, refl, rest .1))
+    let y = agreed .keeps (callRuled b c .ruling) (out .0) (out .1) .1 in
+    let rest = lists-exist cs (callRuled b c .board) (out .0) (q .0) (q .1) y in
+    (rest .0, (callRuled b c .ruling, out .0, rulings (callRuled b c .board) cs, out .1, refl, rest .1))
 
 -- ---- from a fresh board
 
@@ -119,14 +119,14 @@ module _ (s : Settings) (good : badSettings s ≡ false) where
   -- every run's book is beside the board after the list
   pub reached :
       (cs : List Call) (rs : List Ruling) (k : Book) → Runs (opened s) cs rs k
-      → (rs ≡ rulings (started s) cs) × Sim (abstractOf (after (started s) cs)) k
+      → (rs ≡ rulings (started s) cs) × Sim (abstractOf (boardAfter (started s) cs)) k
   reached cs rs k p = lists-keep cs (started s) (opened s) (fresh-answered .shaped) (fresh-answered .sound) fresh-beside rs k p
 
   pub agreement : (cs : List Call) → Agreement s cs
   agreement cs =
       let w = fresh-answered .shaped in
       let sn = fresh-answered .sound in
-      let b = after (started s) cs in
+      let b = boardAfter (started s) cs in
       let out = lists-exist cs (started s) (opened s) w sn fresh-beside in
       let beside = reached cs in
       let end = lists-sound cs (started s) w sn in

@@ -19,7 +19,7 @@ use Rattle.spec_plain.specs.declared.Use.{Use}
 use Rattle.spec_plain.specs.Sent.{SentFirst}
 use Rattle.spec_plain.specs.Plain.{State, withJobs, withLines, total, liveCount}
 use Rattle.part_lines.specs.declared.Line.{Line}
-use Rattle.part_lines.specs.Held.{noJob, jobsOf, lineOf, lineFrom, linesOf, linesFrom, noLine}
+use Rattle.part_lines.specs.ArrayLists.{noJob, jobsOf, lineOf, lineFrom, linesOf, linesFrom, noLine}
 use Rattle.part_lines.proofs.Padded.{length-padded}
 use Rattle.part_lines.proofs.JobLaws.{jobs-back}
 use Rattle.part_lines.proofs.LineLaws.{line-back}

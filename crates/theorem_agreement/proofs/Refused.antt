@@ -8,10 +8,10 @@ use Prim.Native.Nat.{ℕ}
 use Rattle.base_rulings.specs.declared.Cause.{Cause}
 use Rattle.base_rulings.specs.declared.Ruling.{Ruling}
 use Rattle.base_rulings.specs.declared.Ruling.the-variants.{Accepted, Refused}
-use Rattle.base_rulings.proofs.Laws.{refused-no}
+use Rattle.base_rulings.proofs.RulingLaws.{refused-no}
 use Rattle.read_plant.specs.Plant.{plantRuling}
 use Rattle.spec_plain.specs.Plain.{State, Draft, Leaving, liveCount, drafted, unsentAt, sentState, clockOk, leaving}
-use Rattle.spec_stn.specs.Table.{implied}
+use Rattle.spec_stn.specs.Table.{entailsAll}
 use Rattle.part_gaps.specs.Cells.{tableOf, dropped}
 use Rattle.spec_rulebook.specs.Reading.{Reading, bad, good, readingOf}
 use Rattle.spec_rulebook.specs.Book.{Call, plan, send, clock, retire}
@@ -20,8 +20,8 @@ use Rattle.part_sound.specs.Sound.{sound}
 use Rattle.part_settling.specs.Settled.{addedEach}
 use Rattle.call_board.specs.Ruled.{Ruled}
 use Rattle.call_board.specs.Boards.{stateOf}
-use Rattle.call_board.specs.Calls.{refusal, accepted, settled, after, decided, heard, planned, sendRules, sent, clocked, left, retired}
-use Rattle.theorem_agreement.specs.Runs.{answer}
+use Rattle.call_board.specs.Calls.{refusal, accepted, settled, unlessRefused, decided, heard, planned, sendRules, sent, clocked, departed, retired}
+use Rattle.theorem_agreement.specs.Runs.{callRuled}
 
 module _ (b : Board) (c : Cause) where
   abbrev Same : Ruled → Type 0
@@ -49,15 +49,15 @@ module _ (b : Board) (c : Cause) where
   heard-same (bad x) = λ e. refl
   heard-same (good o) = decided-same (drafted (stateOf b) o)
 
-  after-same : (r : Ruling) (a : Ruled) → Same a → Same (after r b a)
-  unfolding after
+  after-same : (r : Ruling) (a : Ruled) → Same a → Same (unlessRefused r b a)
+  unfolding unlessRefused
   after-same Accepted a h = h
   after-same (Refused x) a h = λ e. refl
 
-  left-same : (q : Leaving) → Same (left b q)
-  unfolding left
+  left-same : (q : Leaving) → Same (departed b q)
+  unfolding departed
   left-same Leaving.stop = λ e. refl
-  left-same (Leaving.go m rs s) = go (implied (tableOf (b .gaps)) rs)
+  left-same (Leaving.go m rs s) = go (entailsAll (tableOf (b .gaps)) rs)
     where
       l : List ℕ
       l = dropped (b .gaps) 1 m (liveCount (stateOf b))
@@ -66,8 +66,8 @@ module _ (b : Board) (c : Cause) where
       go true = accepted-same s l
       go false = λ e. refl
 
-  pub refused-same : (call : Call) (a : Ruled) → a ≡ answer b call → a .ruling ≡ Refused c → a .board ≡ b
-  unfolding answer planned sent clocked retired
+  pub refused-same : (call : Call) (a : Ruled) → a ≡ callRuled b call → a .ruling ≡ Refused c → a .board ≡ b
+  unfolding callRuled planned sent clocked retired
   refused-same (plan p o) a e = rw e (after-same (plantRuling p) _ (guarded-same (not (sound b)) 6 _ (heard-same (readingOf (stateOf b) p o))))
   refused-same (send place) a e =
       rw e

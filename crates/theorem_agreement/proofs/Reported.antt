@@ -17,7 +17,7 @@ use Rattle.base_rulings.specs.declared.Ruling.{Ruling}
 use Rattle.base_rulings.specs.declared.Ruling.the-variants.{Accepted, Refused}
 use Rattle.base_rulings.specs.Order.{ifAccepted}
 use Rattle.base_rulings.specs.Answer.{plain}
-use Rattle.base_rulings.proofs.Laws.{refused-no}
+use Rattle.base_rulings.proofs.RulingLaws.{refused-no}
 use Rattle.spec_plain.specs.Plain.{liveCount}
 use Rattle.spec_rulebook.specs.Book.{GreatestTime}
 use Rattle.spec_stn.specs.Table.{latest}
@@ -31,7 +31,7 @@ use Rattle.call_board.specs.Boards.{stateOf}
 use Rattle.call_report.specs.declared.Row.{Row}
 use Rattle.call_report.specs.Rows.{rowOf, rowsIn, rowsOf, noRow, laid, reportRuling, reported, reportedIn}
 use Rattle.call_report.proofs.Laid.{laid-in, laid-beyond}
-use Rattle.call_report.proofs.Laws.{found, length-rows}
+use Rattle.call_report.proofs.RowLaws.{found, length-rows}
 use Rattle.theorem_demands.proofs.Values.{sim-greatest}
 use Rattle.theorem_agreement.specs.Abstract.{Shaped, livePoints}
 use Rattle.theorem_agreement.specs.Timetables.{Timetable, Tells}

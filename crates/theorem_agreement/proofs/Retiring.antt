@@ -16,8 +16,8 @@ use Rattle.spec_plain.specs.Limits.{side, mostPoints}
 use Rattle.spec_plain.specs.declared.Job.{Job}
 use Rattle.spec_plain.specs.declared.Use.{Use}
 use Rattle.spec_plain.specs.declared.Rule.{Rule}
-use Rattle.spec_plain.specs.Plain.{State, Leaving, withJobs, total, liveCount, goes, over, staying, without, leavingFrom, leaving}
-use Rattle.spec_stn.specs.Table.{Agree, implied, pick, oldNumber}
+use Rattle.spec_plain.specs.Plain.{State, Leaving, withJobs, total, liveCount, goes, newNumber, staying, without, leavingFrom, leaving}
+use Rattle.spec_stn.specs.Table.{Agree, entailsAll, pick, oldNumber}
 use Rattle.spec_stn.proofs.Pick.{Number, leaves, stays, number, new-lt, new-positive}
 use Rattle.part_gaps.specs.Cells.{tableOf, dropped}
 use Rattle.part_gaps.specs.GapTable.{GapTable}
@@ -28,7 +28,7 @@ use Rattle.part_boardwords.specs.Board.{Board}
 use Rattle.part_sound.specs.Sound.{SizedUse, Sound}
 use Rattle.part_sound.proofs.Soundness.{sound-of}
 use Rattle.call_board.specs.Boards.{stateOf}
-use Rattle.call_board.specs.Calls.{refusal, accepted, left, retired}
+use Rattle.call_board.specs.Calls.{refusal, accepted, departed, retired}
 use Rattle.theorem_demands.specs.Model as Model
 use Rattle.theorem_demands.specs.Beside.{Mirrors}
 use Rattle.theorem_demands.proofs.Retire.{retire-mirrors}
@@ -50,7 +50,7 @@ module _ (m : ℕ) where
     where
       go :
           (t : Bool) → length (staying 1 m us) ≤ length us
-          → length (cond t [] (record { point = over 1 m (u .point); offset = u .offset; length = u .length } ∷ []) ++ staying 1 m us) ≤ suc (length us)
+          → length (cond t [] (record { point = newNumber 1 m (u .point); offset = u .offset; length = u .length } ∷ []) ++ staying 1 m us) ≤ suc (length us)
       go true rest = omega (arith, rest)
       go false rest = omega (arith, rest)
 
@@ -61,14 +61,14 @@ module _ (m : ℕ) where
   staying-sized n (u ∷ us) a = go (number 1 m (u .point)) (a .0) (staying-sized n us (a .1))
     where
       kept : List Use
-      kept = record { point = over 1 m (u .point); offset = u .offset; length = u .length } ∷ []
+      kept = record { point = newNumber 1 m (u .point); offset = u .offset; length = u .length } ∷ []
 
       go :
           Number 1 m (u .point) → SizedUse (m + n) u → All (SizedUse n) (staying 1 m us)
           → All (SizedUse n) (cond (goes 1 m (u .point)) [] kept ++ staying 1 m us)
       go (leaves lo hi e) one rest = rw e rest
       go (stays o e) one rest =
-          let y : ℕ = over 1 m (u .point) in
+          let y : ℕ = newNumber 1 m (u .point) in
           let first = one .not-origin in
           let last = one .live in
           let low : 0 < oldNumber 1 m y = omega (arith, o, first) in
@@ -136,11 +136,11 @@ leaving-sized s p = sized-from s (s .jobs) p
 module _ (b : Board) (w : Shaped b) (s : Sound b) where
   -- that the points of sent jobs stand still comes from the book beside the abstract board
   left-answered :
-      (q : Leaving) → LeavingSized (stateOf b) q → (R : Ruling → Book → Type 0) → Mirrors R (Model.retired (abstractOf b) q)
-      → Answered (left b q) (Model.retired (abstractOf b) q)
-  unfolding LeavingSized left Model.retired
+      (q : Leaving) → LeavingSized (stateOf b) q → (R : Ruling → Book → Type 0) → Mirrors R (Model.departed (abstractOf b) q)
+      → Answered (departed b q) (Model.departed (abstractOf b) q)
+  unfolding LeavingSized departed Model.departed
   left-answered Leaving.stop z R mirrors = refused-answered b w s (plain 21)
-  left-answered (Leaving.go m rs next) z R mirrors = go (implied (tableOf (b .gaps)) rs) mirrors
+  left-answered (Leaving.go m rs next) z R mirrors = go (entailsAll (tableOf (b .gaps)) rs) mirrors
     where
       n : ℕ
       n = livePoints b
@@ -168,12 +168,12 @@ module _ (b : Board) (w : Shaped b) (s : Sound b) where
           → Mirrors R
           (elim t [
             | true ↦ record { ruling = Accepted; board = Model.board next (pick (oldNumber 1 m) (tableOf (b .gaps))) }
-            | false ↦ Model.refusal (abstractOf b) (plain 21)
+            | false ↦ Model.refusedWith (abstractOf b) (plain 21)
           ])
           → Answered (cond t (accepted next cells) (refusal b 21))
           (elim t [
             | true ↦ record { ruling = Accepted; board = Model.board next (pick (oldNumber 1 m) (tableOf (b .gaps))) }
-            | false ↦ Model.refusal (abstractOf b) (plain 21)
+            | false ↦ Model.refusedWith (abstractOf b) (plain 21)
           ])
       go true mirrored =
           let k = mirrored .exists in
@@ -182,7 +182,7 @@ module _ (b : Board) (w : Shaped b) (s : Sound b) where
           record { ruling = refl; state = parts-state p; cells = agree; shaped = parts-shaped p; sound = parts-sound p }
       go false mirrored = refused-answered b w s (plain 21)
 
-  pub retired-is : retired b ≡ left b (leaving (stateOf b))
+  pub retired-is : retired b ≡ departed b (leaving (stateOf b))
   unfolding retired
   retired-is = rw (sound-of b (w .lines) s)
 

@@ -11,11 +11,11 @@ use native.Mathlib.Omega.{arith}
 use lib.ListN.{length}
 use Rattle.base_rulings.specs.declared.Ruling.the-variants.{Accepted}
 use Rattle.base_rulings.specs.Answer.{plain}
-use Rattle.base_rulings.proofs.Laws.{refused-no}
+use Rattle.base_rulings.proofs.RulingLaws.{refused-no}
 use Rattle.spec_plain.specs.declared.Job.{Job}
 use Rattle.spec_plain.specs.Plain.{State, Leaving, liveCount, without, leavingFrom, leaving}
 use Rattle.spec_plain.specs.Rules.{Times}
-use Rattle.spec_stn.specs.Table.{Fits, Still, implied, pick, oldNumber}
+use Rattle.spec_stn.specs.Table.{Fits, Still, entailsAll, pick, oldNumber}
 use Rattle.spec_stn.proofs.Agree.{agree-fits}
 use Rattle.spec_stn.proofs.Pick.{pick-fits, old-low, old-lt, spread, spread-old, spread-origin, spread-fits}
 use Rattle.part_gaps.specs.Cells.{tableOf}
@@ -23,14 +23,14 @@ use Rattle.spec_rulebook.specs.Book.{retire}
 use Rattle.part_boardwords.specs.Board.{Board}
 use Rattle.part_sound.specs.Sound.{Sound}
 use Rattle.call_board.specs.Boards.{stateOf}
-use Rattle.call_board.specs.Calls.{refusal, left, retired}
-use Rattle.theorem_demands.specs.Model.{Answer}
+use Rattle.call_board.specs.Calls.{refusal, departed, retired}
+use Rattle.theorem_demands.specs.Model.{AbstractRuled}
 use Rattle.theorem_demands.specs.Model as Model
 use Rattle.theorem_demands.specs.Beside.{Each}
 use Rattle.theorem_demands.proofs.Tries.{live-positive}
 use Rattle.theorem_agreement.specs.Abstract.{Shaped, livePoints, abstractOf, bookOf}
 use Rattle.theorem_agreement.specs.Timetables.{Timetable}
-use Rattle.theorem_agreement.specs.Retire.{MayLeave, over, Left}
+use Rattle.theorem_agreement.specs.Retire.{MayLeave, over, WithoutOldest}
 use Rattle.theorem_agreement.proofs.Parts.{parts-of, jobs-count}
 use Rattle.theorem_agreement.proofs.Books.{sound-sim}
 use Rattle.theorem_agreement.proofs.Keeps.{Answered}
@@ -60,11 +60,11 @@ module _
         ap (leavingFrom (stateOf b)) e
         ∙ ap (λ (t : Bool). cond t (Leaving.go (j .points) (rules b w s j js e) next) Leaving.stop) is-sent
 
-    all-implied : implied (table b w s) (rules b w s j js e) ≡ true
-    unfolding left
+    all-implied : entailsAll (table b w s) (rules b w s j js e) ≡ true
+    unfolding departed
     all-implied =
-        go (implied (table b w s) (rules b w s j js e)) _
-        (sym (ap (λ (q : Leaving). left b q .ruling) leaving-is) ∙ sym (ap (λ r. r .ruling) (retired-is b w s)) ∙ yes-ruled)
+        go (entailsAll (table b w s) (rules b w s j js e)) _
+        (sym (ap (λ (q : Leaving). departed b q .ruling) leaving-is) ∙ sym (ap (λ r. r .ruling) (retired-is b w s)) ∙ yes-ruled)
       where
         go : (t : Bool) (a : Board) → cond t (record { ruling = Accepted; board = a }) (refusal b 21) .ruling ≡ Accepted → t ≡ true
         go true a q = refl
@@ -72,11 +72,11 @@ module _
 
     model-is :
         Model.step (abstractOf b) retire ≡ record { ruling = Accepted; board = Model.board next (pick (oldNumber 1 (j .points)) (table b w s)) }
-    unfolding Model.step Model.retired
-    model-is = ap (Model.retired (abstractOf b)) leaving-is ∙ rw (all-implied, Model.retired)
+    unfolding Model.step Model.departed
+    model-is = ap (Model.departed (abstractOf b)) leaving-is ∙ rw (all-implied, Model.departed)
 
     answered : Answered (retired b) (record { ruling = Accepted; board = Model.board next (pick (oldNumber 1 (j .points)) (table b w s)) })
-    answered = subst (λ (a : Answer). Answered (retired b) a) model-is (retire-answered b w s)
+    answered = subst (λ (a : AbstractRuled). Answered (retired b) a) model-is (retire-answered b w s)
 
     -- ---- timetables
 
@@ -115,7 +115,7 @@ module _
               (λ i k hi hk. sym (answered .cells i k hi hk)) v same),
         )
 
-    pub retire-leaves : Left b j js (retired b .board)
+    pub retire-leaves : WithoutOldest b j js (retired b .board)
     unfolding without
     retire-leaves =
         let x = sound-sim d (answered .shaped) (answered .sound) in

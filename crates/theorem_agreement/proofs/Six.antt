@@ -24,8 +24,8 @@ use Rattle.base_words.specs.Word.{word}
 use Rattle.read_facts.specs.Regression.{undoes, regressed, lacking, backOver, thenBack, workBack, atStart, onNeed, factRuling}
 use Rattle.read_plant.specs.Plant.{isMark, trailerOf, badLayout, recordStart, recordEnd, badRecord, badAction, recordAt, recordRuling, plantRuling}
 use Rattle.read_offer.specs.Offer.{stepCount, knownOf, goalOf, chainOf, stepStart, stepEnd, stepAt, stepRuling, offerRuling, consistencyRuling, chainRuling, factCheck}
-use Rattle.spec_plain.specs.Plain.{Offer, State, Placed, Draft, Leaving, liveCount, full, pointsOf, placed, joining, drafted, unsentAt, clockOk, leaving}
-use Rattle.spec_stn.specs.Table.{implied}
+use Rattle.spec_plain.specs.Plain.{Offer, State, Placed, Draft, Leaving, liveCount, full, newPoints, placed, joining, drafted, unsentAt, clockOk, leaving}
+use Rattle.spec_stn.specs.Table.{entailsAll}
 use Rattle.part_gaps.specs.Cells.{tableOf}
 use Rattle.spec_rulebook.specs.Reading.{Reading, good, offerOf, past, readingOf}
 use Rattle.spec_rulebook.proofs.Reading.{reading-rules}
@@ -35,9 +35,9 @@ use Rattle.part_sound.specs.Sound.{Sound}
 use Rattle.part_sound.proofs.Soundness.{sound-of}
 use Rattle.call_board.specs.Ruled.{Ruled}
 use Rattle.call_board.specs.Boards.{stateOf}
-use Rattle.call_board.specs.Calls.{refusal, settled, decided, heard, left, sent, clocked}
+use Rattle.call_board.specs.Calls.{refusal, settled, decided, heard, departed, sent, clocked}
 use Rattle.theorem_agreement.specs.Abstract.{Shaped}
-use Rattle.theorem_agreement.specs.Runs.{answer}
+use Rattle.theorem_agreement.specs.Runs.{callRuled}
 use Rattle.theorem_agreement.proofs.Keeps.{planned-is}
 use Rattle.theorem_agreement.proofs.Retiring.{retired-is}
 use Rattle.theorem_agreement.proofs.Fourteen.{Other, placed-other}
@@ -160,14 +160,14 @@ module _ (b : Board) where
 
   drafted-6 : (o : Offer) → Not6 (decided b (drafted (stateOf b) o) .ruling)
   unfolding drafted decided
-  drafted-6 o = go (full (stateOf b) (pointsOf o))
+  drafted-6 o = go (full (stateOf b) (newPoints o))
     where
       q : Placed
-      q = placed (stateOf b .settings) (liveCount (stateOf b)) 0 (o .puts) (stateOf b .lines) []
+      q = placed (stateOf b .settings) (liveCount (stateOf b)) 0 (o .allocations) (stateOf b .lines) []
 
       go : (t : Bool) → Not6 (decided b (cond t (Draft.stop (plain 14)) (joining (stateOf b) o q)) .ruling)
       go true = is-not λ e. omega arith
-      go false = joining-6 o q (placed-other (stateOf b .settings) (liveCount (stateOf b)) 0 (o .puts) (stateOf b .lines) [])
+      go false = joining-6 o q (placed-other (stateOf b .settings) (liveCount (stateOf b)) 0 (o .allocations) (stateOf b .lines) [])
 
   heard-6 : (p o : List ℕ) → Not6 (heard b (readingOf (stateOf b) p o) .ruling)
   unfolding heard past
@@ -178,17 +178,17 @@ module _ (b : Board) where
       go Accepted x = drafted-6 (offerOf p o)
       go (Refused c) x = x
 
-  left-6 : (q : Leaving) → Not6 (left b q .ruling)
-  unfolding left
+  left-6 : (q : Leaving) → Not6 (departed b q .ruling)
+  unfolding departed
   left-6 Leaving.stop = is-not λ e. omega arith
-  left-6 (Leaving.go m rs s) = go (implied (tableOf (b .gaps)) rs) _
+  left-6 (Leaving.go m rs s) = go (entailsAll (tableOf (b .gaps)) rs) _
     where
       go : (t : Bool) (a : Board) → Not6 (cond t (record { ruling = Accepted; board = a }) (refusal b 21) .ruling)
       go true a = is-not λ e. omega arith
       go false a = is-not λ e. omega arith
 
-  pub call-6 : Shaped b → Sound b → (call : Call) → Not6 (answer b call .ruling)
-  unfolding answer sent clocked
+  pub call-6 : Shaped b → Sound b → (call : Call) → Not6 (callRuled b call .ruling)
+  unfolding callRuled sent clocked
   call-6 w s (plan p o) = rw (planned-is b w s p o) (heard-6 p o)
   call-6 w s (send place) =
       rw (sound-of b (w .lines) s)

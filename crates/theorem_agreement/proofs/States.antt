@@ -9,7 +9,7 @@ use lib.Dec.{leb}
 use borrow.Author.Tests.{leb-true}
 use Rattle.spec_plain.specs.Limits.{side}
 use Rattle.spec_plain.specs.declared.Job.{Job}
-use Rattle.spec_plain.specs.Plain.{State, liveCount, marked, sentState, clockOk, clockState}
+use Rattle.spec_plain.specs.Plain.{State, liveCount, sentUpTo, sentState, clockOk, clockState}
 use Rattle.part_lines.proofs.JobLaws.{length-marked}
 use Rattle.base_lists.proofs.AllBelow.{both-true}
 use Rattle.base_lists.specs.All.{All}
@@ -18,8 +18,8 @@ use Rattle.theorem_demands.proofs.Send.{total-marked}
 use Rattle.theorem_demands.proofs.Sent.{first-marked}
 use Rattle.theorem_agreement.proofs.Parts.{Limits}
 
-sizes-marked : (k : ℕ) (js : List Job) → All SizedJob js → All SizedJob (marked k js)
-unfolding marked
+sizes-marked : (k : ℕ) (js : List Job) → All SizedJob js → All SizedJob (sentUpTo k js)
+unfolding sentUpTo
 sizes-marked zero js a = a
 sizes-marked (suc k) [] a = tt
 sizes-marked (suc k) (j ∷ js) a = (record { least = a .0 .least; most = a .0 .most }, sizes-marked k js (a .1))

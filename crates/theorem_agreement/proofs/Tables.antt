@@ -13,7 +13,7 @@ use lib.ListN.{length}
 use borrow.Author.Tests.{leb-true}
 use Rattle.spec_plain.specs.Limits.{side, cellCount}
 use Rattle.spec_plain.specs.declared.Rule.{Rule}
-use Rattle.spec_stn.specs.Table.{bias, Table, Agrees, agrees, add, addAll, Within, Agree}
+use Rattle.spec_stn.specs.Table.{bias, Table, IsConsistent, isConsistent, add, addAll, Within, Agree}
 use Rattle.spec_stn.proofs.Agree.{agree-add}
 use Rattle.part_gaps.specs.Cells.{tableOf, added}
 use Rattle.part_gaps.specs.GapTable.{GapTable}
@@ -33,7 +33,7 @@ pub addedAll-agree :
 unfolding AgreeOutcomes addedAll addAll Within
 addedAll-agree n [] l c size few w e = e
 addedAll-agree n (r ∷ rs) l c size few w e =
-    go (agrees r (tableOf l)) (agrees r c)
+    go (isConsistent r (tableOf l)) (isConsistent r c)
     (ap (λ (z : ℕ). leb (bias + r .more) (r .slack + z)) (e (r .early) (r .late) (w .0) (w .1)))
     (addedAll-agree n rs (added l n r) (add r c) (added-length l n r size few) few (w .2)
     (λ i j hi hj. added-agree l n r size few i j hi hj ∙ agree-add n (tableOf l) c r (w .0) (w .1) e i j hi hj))
@@ -56,14 +56,14 @@ some-is l m e = cc
 pub addedAll-good :
     (n H : ℕ) (rs : List Rule) (l m : List ℕ) → length l ≡ cellCount → n ≤ side → Within n rs → GapTable l n H → addedAll rs n l ≡ some m
     → (length m ≡ cellCount) × GapTable m n H
-unfolding addedAll Within Agrees
+unfolding addedAll Within IsConsistent
 addedAll-good n H [] l m size few w g e = let same = some-is l m e in (rw (← same) size, rw (← same) g)
 addedAll-good n H (r ∷ rs) l m size few w g e =
-    go (agrees r (tableOf l)) refl e
+    go (isConsistent r (tableOf l)) refl e
     (λ good rest. addedAll-good n H rs (added l n r) m (added-length l n r size few) few (w .2) good rest)
   where
     go :
-        (b : Bool) → agrees r (tableOf l) ≡ b
+        (b : Bool) → isConsistent r (tableOf l) ≡ b
         → elim b [ true ↦ addedAll rs n (added l n r) | false ↦ none ] ≡ some m
         → (GapTable (added l n r) n H → addedAll rs n (added l n r) ≡ some m → (length m ≡ cellCount) × GapTable m n H)
         → (length m ≡ cellCount) × GapTable m n H
@@ -73,7 +73,7 @@ addedAll-good n H (r ∷ rs) l m size few w g e =
 pub addedAll-each : (n : ℕ) (rs : List Rule) (l m : List ℕ) → addedAll rs n l ≡ some m → addedEach rs n l ≡ m
 unfolding addedAll addedEach
 addedAll-each n [] l m e = some-is l m e
-addedAll-each n (r ∷ rs) l m e = go (agrees r (tableOf l)) e (addedAll-each n rs (added l n r) m)
+addedAll-each n (r ∷ rs) l m e = go (isConsistent r (tableOf l)) e (addedAll-each n rs (added l n r) m)
   where
     go :
         (b : Bool) → elim b [ true ↦ addedAll rs n (added l n r) | false ↦ none ] ≡ some m

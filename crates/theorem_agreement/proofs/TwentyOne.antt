@@ -14,7 +14,7 @@ use lib.Signed.{_<ℤ_, <ℤ-≤ℤ-trans, clashℤ}
 use borrow.Author.Tests.{leb-false}
 use Rattle.base_rulings.specs.declared.Ruling.the-variants.{Accepted}
 use Rattle.base_rulings.specs.Answer.{plain, refuse}
-use Rattle.base_rulings.proofs.Laws.{refused-no}
+use Rattle.base_rulings.proofs.RulingLaws.{refused-no}
 use Rattle.spec_plain.specs.declared.Job.{Job}
 use Rattle.spec_plain.specs.declared.Use.{Use}
 use Rattle.spec_plain.specs.declared.Rule.{Rule}
@@ -22,19 +22,19 @@ use Rattle.spec_plain.specs.Plain.{State, Leaving, endOf, trayGap, total, liveC
 use Rattle.spec_plain.specs.Rules.{Times, AllKept}
 use Rattle.spec_plain.proofs.Whole.{up, dn, of-below, add-spec, sub-spec}
 use Rattle.spec_plain.proofs.Rules.{keeps-to}
-use Rattle.spec_stn.specs.Table.{bias, Table, Closed, Within, far, implied}
+use Rattle.spec_stn.specs.Table.{bias, Table, Closed, Within, far, entailsAll}
 use Rattle.spec_stn.proofs.Fits.{implied-yes, far-fits, far-origin}
 use Rattle.part_gaps.specs.Cells.{tableOf}
 use Rattle.part_boardwords.specs.Board.{Board}
 use Rattle.part_sound.specs.Sound.{Sound}
 use Rattle.call_board.specs.Ruled.{Ruled}
 use Rattle.call_board.specs.Boards.{stateOf}
-use Rattle.call_board.specs.Calls.{refusal, left, retired}
+use Rattle.call_board.specs.Calls.{refusal, departed, retired}
 use Rattle.theorem_demands.proofs.Leave.{ends-within}
 use Rattle.theorem_demands.proofs.Tries.{live-positive}
 use Rattle.theorem_agreement.specs.Abstract.{Shaped, livePoints}
 use Rattle.theorem_agreement.specs.Timetables.{Timetable}
-use Rattle.theorem_agreement.specs.Retire.{Over, Outlasts, MayLeave, over, MustStay, no-job, unsent, outlasts, Leaves}
+use Rattle.theorem_agreement.specs.Retire.{IsOver, Outlasts, MayLeave, over, MustStay, no-job, unsent, outlasts, Leaves}
 use Rattle.theorem_agreement.proofs.Parts.{parts-of}
 use Rattle.theorem_agreement.proofs.Books.{parts-holds}
 use Rattle.theorem_agreement.proofs.Retiring.{retired-is}
@@ -83,7 +83,7 @@ module _ (b : Board) (w : Shaped b) (s : Sound b) where
           (parts-holds (parts-of b w s) .lines),
     )
 
-    all-over : implied table rules ≡ true → (u : Times) → Timetable b u → Over b (j .points) u
+    all-over : entailsAll table rules ≡ true → (u : Times) → Timetable b u → IsOver b (j .points) u
     unfolding AllKept overBy
     all-over i u t =
         let k = implied-yes (livePoints b) table rules within (rw i tt) u (t .1) in
@@ -95,8 +95,8 @@ module _ (b : Board) (w : Shaped b) (s : Sound b) where
           uses = λ x q. over-lines (b .settings) (b .clock) m u (t .0) (stateOf b .lines) (k .1) x (q .held) (q .first) (q .last);
         }
 
-    outlasting : implied table rules ≡ false → Outlasts b (j .points) (far table 0)
-    unfolding implied overBy far
+    outlasting : entailsAll table rules ≡ false → Outlasts b (j .points) (far table 0)
+    unfolding entailsAll overBy far
     outlasting i = go (both-false (leb (table 0 (j .points) + gap) (bias + b .clock)) _ i)
       where
         origin : table 0 0 ≡ bias
@@ -104,7 +104,7 @@ module _ (b : Board) (w : Shaped b) (s : Sound b) where
 
         go :
             (leb (table 0 (j .points) + gap) (bias + b .clock) ≡ false)
-            ⊎ (implied table (allEndBy (b .settings) (b .clock) 1 (j .points) (stateOf b .lines)) ≡ false)
+            ⊎ (entailsAll table (allEndBy (b .settings) (b .clock) 1 (j .points) (stateOf b .lines)) ≡ false)
             → Outlasts b (j .points) (far table 0)
         go (inl f) =
             let past : bias + b .clock < table 0 (j .points) + gap = leb-false _ _ f in
@@ -131,16 +131,16 @@ module _ (b : Board) (w : Shaped b) (s : Sound b) where
   abbrev Outcome : Ruled → Type 0
   Outcome a = (MayLeave b × (a .ruling ≡ Accepted)) ⊎ (MustStay b × (a ≡ refusal b 21))
 
-  outcome : (js : List Job) → stateOf b .jobs ≡ js → Outcome (left b (leavingFrom (stateOf b) js))
-  unfolding left leavingFrom
+  outcome : (js : List Job) → stateOf b .jobs ≡ js → Outcome (departed b (leavingFrom (stateOf b) js))
+  unfolding departed leavingFrom
   outcome [] e = inr (no-job e, refl)
   outcome (j ∷ js) e = go (j .sent) refl _
     where
-      go : (t : Bool) → j .sent ≡ t → (next : State) → Outcome (left b (cond t (Leaving.go (j .points) (rules j js e) next) Leaving.stop))
+      go : (t : Bool) → j .sent ≡ t → (next : State) → Outcome (departed b (cond t (Leaving.go (j .points) (rules j js e) next) Leaving.stop))
       go false q next = inr (unsent j js e q, refl)
-      go true q next = choose (implied table (rules j js e)) refl _
+      go true q next = choose (entailsAll table (rules j js e)) refl _
         where
-          choose : (t : Bool) → implied table (rules j js e) ≡ t → (d : Board) → Outcome (cond t (record { ruling = Accepted; board = d }) (refusal b 21))
+          choose : (t : Bool) → entailsAll table (rules j js e) ≡ t → (d : Board) → Outcome (cond t (record { ruling = Accepted; board = d }) (refusal b 21))
           choose true i d = inl (over j js e q (all-over j js e i), refl)
           choose false i d = inr (outlasts j js e (far table 0) latest-kept (outlasting j js e i), refl)
 
@@ -150,7 +150,7 @@ module _ (b : Board) (w : Shaped b) (s : Sound b) where
       true≢false (sym q ∙ ap (λ (z : Job). z .sent) (first-is j i js is (sym e ∙ f)) ∙ p)
   not-both (over j js e q all) (outlasts i is f u t p) = go (all u t) (rw (← (ap (λ (z : Job). z .points) (first-is j i js is (sym e ∙ f)))) at p)
     where
-      go : Over b (j .points) u → Outlasts b (j .points) u → ⊥
+      go : IsOver b (j .points) u → Outlasts b (j .points) u → ⊥
       go o (inl h) = clashℤ h (o .last)
       go o (inr h) = clashℤ (h .2) (o .uses (h .0) (h .1))
 

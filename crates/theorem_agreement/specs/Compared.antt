@@ -13,12 +13,12 @@ use Rattle.theorem_demands.specs.Cases.{SameTimetables}
 use Rattle.log_tables.specs.declared.Compared.the-variants.{Equal}
 use Rattle.log_tables.specs.Compared.{compared}
 use Rattle.theorem_agreement.specs.Abstract.{livePoints}
-use Rattle.theorem_agreement.specs.Runs.{started, after}
+use Rattle.theorem_agreement.specs.Runs.{started, boardAfter}
 
 abbrev pub ComparesRight : Type 0
 ComparesRight =
     (s t : Settings) → badSettings s ≡ false → badSettings t ≡ false
     → (cs ds : List Call) (rs qs : List Ruling) (k j : Book)
     → Runs (fresh s) cs rs k → Runs (fresh t) ds qs j
-    → compared (after (started s) cs) (after (started t) ds) ≡ Equal
-    ↔ (livePoints (after (started s) cs) ≡ livePoints (after (started t) ds)) × SameTimetables k j
+    → compared (boardAfter (started s) cs) (boardAfter (started t) ds) ≡ Equal
+    ↔ (livePoints (boardAfter (started s) cs) ≡ livePoints (boardAfter (started t) ds)) × SameTimetables k j

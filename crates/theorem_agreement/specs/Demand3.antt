@@ -18,7 +18,7 @@ use Rattle.spec_plain.specs.declared.Settings.{Settings}
 use Rattle.call_board.specs.Boards.{badSettings}
 use Rattle.theorem_demands.specs.Cases.{SameTimetables}
 use Rattle.theorem_agreement.specs.Abstract.{livePoints}
-use Rattle.theorem_agreement.specs.Runs.{started, after}
+use Rattle.theorem_agreement.specs.Runs.{started, boardAfter}
 
 abbrev pub SameCells : Board → Board → Type 0
 SameCells b d = (i j : ℕ) → i < side → j < side → cell (b .gaps) i j ≡ cell (d .gaps) i j
@@ -28,5 +28,5 @@ Demand3 =
     (s t : Settings) → badSettings s ≡ false → badSettings t ≡ false
     → (cs ds : List Call) (rs qs : List Ruling) (k j : Book)
     → Runs (fresh s) cs rs k → Runs (fresh t) ds qs j
-    → livePoints (after (started s) cs) ≡ livePoints (after (started t) ds)
-    → SameCells (after (started s) cs) (after (started t) ds) ↔ SameTimetables k j
+    → livePoints (boardAfter (started s) cs) ≡ livePoints (boardAfter (started t) ds)
+    → SameCells (boardAfter (started s) cs) (boardAfter (started t) ds) ↔ SameTimetables k j

@@ -1,12 +1,12 @@
 -- Retire on a sound board, in terms of timetables: when the oldest job may leave, when it must stay, and what it leaves behind.
---   Held x ls        the use x is in one of the lines ls
+--   InLines x ls     the use x is in one of the lines ls
 --   UseOf b m x      x is a use, on the board b, of the oldest job, whose points are 1 to m
---   Over b m u       in the timetable u that job's last point, with the tray gap, and the end of each of its uses, is at most the clock
+--   IsOver b m u     in the timetable u that job's last point, with the tray gap, and the end of each of its uses, is at most the clock
 --   Outlasts b m u   its last point, with the tray gap, or the end of one of its uses, is after the clock: one that ends after H too
 --   MayLeave b       there is an oldest job, it is sent, and in every timetable of the board it is over
 --   MustStay b       refusal 21: "There is no job to retire, or the oldest is unsent, or its last point or an allocation ends after the clock."
 --   Leaves b a       the answer a to retire is accepted exactly when the job may leave, and refused with 21 exactly when it must stay
---   Left b j js d    the board d is b without its oldest job j, of which js were the others
+--   WithoutOldest b j js d  the board d is b without its oldest job j, of which js were the others
 use mathlib.Core.Path.{_≡_}
 use mathlib.Core.Logic.{_↔_, _⊎_}
 use mathlib.Core.Bool.{true, false}
@@ -30,16 +30,16 @@ use Rattle.call_board.specs.Calls.{refusal}
 use Rattle.theorem_agreement.specs.Abstract.{livePoints}
 use Rattle.theorem_agreement.specs.Timetables.{Timetable, Minimal, In}
 
-abbrev pub Held : Use → List (List Use) → Type 0
-Held x [] = ⊥
-Held x (us ∷ ls) = In x us ⊎ Held x ls
+abbrev pub InLines : Use → List (List Use) → Type 0
+InLines x [] = ⊥
+InLines x (us ∷ ls) = In x us ⊎ InLines x ls
 
 pub record UseOf (b : Board) (m : ℕ) (x : Use) : Type 0 where
-  pub held : Held x (stateOf b .lines)
+  pub held : InLines x (stateOf b .lines)
   pub first : 1 ≤ x .point
   pub last : x .point ≤ m
 
-pub record Over (b : Board) (m : ℕ) (u : Times) : Type 0 where
+pub record IsOver (b : Board) (m : ℕ) (u : Times) : Type 0 where
   pub last : (u m +ℤ pos (trayGap (b .settings))) ≤ℤ pos (b .clock)
   pub uses : (x : Use) → UseOf b m x → (u (x .point) +ℤ pos (endOf (b .settings) x)) ≤ℤ pos (b .clock)
 
@@ -49,7 +49,7 @@ Outlasts b m u =
     ⊎ ((x : Use) × UseOf b m x × (pos (b .clock) <ℤ (u (x .point) +ℤ pos (endOf (b .settings) x))))
 
 pub data MayLeave (b : Board) : Type 0 where
-  over : (j : Job) (js : List Job) → stateOf b .jobs ≡ j ∷ js → j .sent ≡ true → ((u : Times) → Timetable b u → Over b (j .points) u) → MayLeave b
+  over : (j : Job) (js : List Job) → stateOf b .jobs ≡ j ∷ js → j .sent ≡ true → ((u : Times) → Timetable b u → IsOver b (j .points) u) → MayLeave b
 
 pub data MustStay (b : Board) : Type 0 where
   no-job : stateOf b .jobs ≡ [] → MustStay b
@@ -61,7 +61,7 @@ pub record Leaves (b : Board) (a : Ruled) : Type 0 where
   pub refused : (a .ruling ≡ refuse 21) ↔ MustStay b
   pub either : (a .ruling ≡ Accepted) ⊎ (a ≡ refusal b 21)
 
-pub record Left (b : Board) (j : Job) (js : List Job) (d : Board) : Type 0 where
+pub record WithoutOldest (b : Board) (j : Job) (js : List Job) (d : Board) : Type 0 where
   -- "the oldest job leaves the list and the lines; later points are renumbered down"
   pub jobs : stateOf d .jobs ≡ js
   pub lines : stateOf d .lines ≡ map (staying 1 (j .points)) (stateOf b .lines)

@@ -17,7 +17,7 @@ use lib.IntN.{pos, subℕ}
 use Rattle.base_rulings.specs.declared.Ruling.the-variants.{Accepted}
 use Rattle.spec_plain.specs.Plain.{total}
 use Rattle.spec_plain.specs.Rules.{Times}
-use Rattle.part_lines.specs.Held.{noJob}
+use Rattle.part_lines.specs.ArrayLists.{noJob}
 use Rattle.spec_rulebook.specs.Book.{LeastTime, GreatestTime, LargestGap}
 use Rattle.spec_stn.specs.Table.{bias, Fits, earliest, soonest}
 use Rattle.part_gaps.specs.Cells.{cell, tableOf}

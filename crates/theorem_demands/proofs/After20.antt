@@ -21,8 +21,8 @@ use Rattle.spec_plain.specs.Sent.{NoneSent, SentFirst}
 use Rattle.spec_plain.specs.Rules.{RuleOn}
 use Rattle.spec_stn.specs.Table.{Table, addAll, earliest}
 use Rattle.spec_rulebook.specs.Book.{Book, Point, Step, send, clock}
-use Rattle.theorem_demands.specs.Model.{Board, Answer, board, refusal, settled, sendPoints, clocking, step}
-use Rattle.theorem_demands.specs.Beside.{Holds, Sim}
+use Rattle.theorem_demands.specs.Model.{Board, AbstractRuled, board, refusedWith, settled, sendPoints, clocking, step}
+use Rattle.theorem_demands.specs.Beside.{StandsFor, Sim}
 use Rattle.theorem_demands.specs.Sent.{AllSent, newest}
 use Rattle.theorem_demands.proofs.Send.{send-added, send-some}
 use Rattle.theorem_demands.proofs.Step.{sim-keeps}
@@ -40,8 +40,8 @@ starts-sent p x (j ∷ js) a = go (j .sent) (a .0) (starts-sent p (x + j .points
     go true t e = e
     go false t e = absurd t
 
-marked-newest : (js : List Job) → AllSent (Plain.marked (suc (newest js)) js)
-unfolding AllSent Plain.marked newest
+marked-newest : (js : List Job) → AllSent (Plain.sentUpTo (suc (newest js)) js)
+unfolding AllSent Plain.sentUpTo newest
 marked-newest [] = tt
 marked-newest (j ∷ []) = (tt, tt)
 marked-newest (j ∷ i ∷ js) = (tt, marked-newest (i ∷ js))
@@ -73,10 +73,10 @@ unsent-newest (j ∷ i ∷ js) o = go (j .sent) refl (unsent-newest (i ∷ js) (
 
 -- a clock call that is refused with 20 has passed 19
 clock-ok : (b : Board) (m : ℕ) → step b (clock m) .ruling ≡ refuse 20 → T (Plain.clockOk (b .state) m)
-unfolding step refusal
+unfolding step refusedWith
 clock-ok b m e = go (Plain.clockOk (b .state) m) e
   where
-    go : (q : Bool) → (let a : Answer = elim q [ true ↦ clocking b m | false ↦ refusal b (plain 19) ] in a .ruling) ≡ refuse 20 → T q
+    go : (q : Bool) → (let a : AbstractRuled = elim q [ true ↦ clocking b m | false ↦ refusedWith b (plain 19) ] in a .ruling) ≡ refuse 20 → T q
     go true e = tt
     go false e = let z : _≡_ {A = ℕ} 19 20 = cc in absurd (omega arith)
 
@@ -86,11 +86,11 @@ clock-moves s c m a t = go (Plain.clockOk s m) t
   where
     go :
         (b : Bool) → T b
-        → (let a : Answer = elim b [ true ↦ clocking (board s c) m | false ↦ refusal (board s c) (plain 19) ] in a .ruling) ≡ Accepted
+        → (let a : AbstractRuled = elim b [ true ↦ clocking (board s c) m | false ↦ refusedWith (board s c) (plain 19) ] in a .ruling) ≡ Accepted
     go true t = rw (starts-sent (m + s .settings .lead) 1 (s .jobs) a)
     go false t = absurd t
 
-module _ {s : Plain.State} {c : Table} {rs : List (RuleOn Point)} (h : Holds s c rs) where
+module _ {s : Plain.State} {c : Table} {rs : List (RuleOn Point)} (h : StandsFor s c rs) where
   send-goes :
       (k : ℕ) → T (Plain.unsentAt k (s .jobs))
       → (d : Table) × (step (board s c) (send k) ≡ record { ruling = Accepted; board = board (Plain.sentState s k) d })
@@ -102,7 +102,7 @@ module _ {s : Plain.State} {c : Table} {rs : List (RuleOn Point)} (h : Holds s c
     where
       go :
           (b : Bool) → T b → (o : Option Table) (d : Table) → o ≡ some d
-          → (let a : Answer = elim b [ true ↦ settled (board s c) 0 (Plain.sentState s k) o | false ↦ refusal (board s c) (plain 18) ] in a)
+          → (let a : AbstractRuled = elim b [ true ↦ settled (board s c) 0 (Plain.sentState s k) o | false ↦ refusedWith (board s c) (plain 18) ] in a)
           ≡ record { ruling = Accepted; board = board (Plain.sentState s k) d }
       go true t o d e = rw e
       go false t o d e = absurd t
@@ -117,7 +117,7 @@ module _ {s : Plain.State} {c : Table} {rs : List (RuleOn Point)} (h : Holds s c
       ok : T (Plain.clockOk s m)
       ok = clock-ok (board s c) m e
 
-      goal : Answer → Type 0
+      goal : AbstractRuled → Type 0
       goal a = (a .ruling ≡ Accepted) × (step (a .board) (clock m) .ruling ≡ Accepted)
 
       go : AllSent (s .jobs) ⊎ T (Plain.unsentAt (newest (s .jobs)) (s .jobs)) → goal (step (board s c) (send (newest (s .jobs))))
@@ -135,8 +135,8 @@ pub book-after20 :
     → (r : Ruling) (sent : Book) → Step bk (send (newest (bd .state .jobs))) r sent
     → (q : Ruling) (moved : Book) → Step sent (clock m) q moved
     → (r ≡ Accepted) × (q ≡ Accepted)
-book-after20 {bd} x first m k refusal r sent sending q moved moving =
-    let a = sim-keeps x (clock m) (refuse 20) k refusal in
+book-after20 {bd} x first m k refusedWith r sent sending q moved moving =
+    let a = sim-keeps x (clock m) (refuse 20) k refusedWith in
     let b = sim-keeps x (send (newest (bd .state .jobs))) r sent sending in
     let c = sim-keeps (b .1) (clock m) q moved moving in
     let d = after20 (x .holds) first m (sym (a .0)) in

@@ -10,12 +10,12 @@ use Rattle.spec_plain.specs.Rules.{RuleOn, AllKept}
 use Rattle.spec_stn.specs.Table.{Table, Within}
 use Rattle.spec_rulebook.specs.Book.{Point, made, Settles}
 use Rattle.theorem_demands.specs.Model.{book, board, clocking}
-use Rattle.theorem_demands.specs.Beside.{JobsIn, Holds, Mirrors}
+use Rattle.theorem_demands.specs.Beside.{AllHavePoints, StandsFor, Mirrors}
 use Rattle.theorem_demands.proofs.Jobs.{still-tight, still-jobs}
 use Rattle.theorem_demands.proofs.Tries.{live-positive, Tries, try-mirrors}
 
-pub starts-within : (n p : ℕ) (js : List Job) (x : ℕ) → JobsIn js → 0 < n → x + Plain.total js ≤ n → Within n (Plain.starts p x js)
-unfolding JobsIn Within Plain.starts Plain.total Plain.notBefore
+pub starts-within : (n p : ℕ) (js : List Job) (x : ℕ) → AllHavePoints js → 0 < n → x + Plain.total js ≤ n → Within n (Plain.starts p x js)
+unfolding AllHavePoints Within Plain.starts Plain.total Plain.notBefore
 starts-within n p [] x j z le = tt
 starts-within n p (j ∷ js) x jobs z le = go (j .sent) (starts-within n p js (x + j .points) (jobs .1) z (omega arith))
   where
@@ -25,7 +25,7 @@ starts-within n p (j ∷ js) x jobs z le = go (j .sent) (starts-within n p js (x
     go true rest = rest
     go false rest = (z, omega (arith, jobs .0), rest)
 
-module _ {s : Plain.State} {c : Table} {rs : List (RuleOn Point)} (h : Holds s c rs) (m : ℕ) where
+module _ {s : Plain.State} {c : Table} {rs : List (RuleOn Point)} (h : StandsFor s c rs) (m : ℕ) where
   pub clock-mirrors :
       Mirrors (Settles (book s rs) (made (Plain.clockState s m) (book s rs) (Plain.starts (m + s .settings .lead) 1 (s .jobs))) 20)
       (clocking (board s c) m)

@@ -16,7 +16,7 @@ use Rattle.spec_stn.proofs.Agree.{agree-fits}
 use Rattle.spec_rulebook.specs.Book.{Book, Point, Possible}
 use Rattle.theorem_demands.specs.Model.{Board, book}
 use Rattle.theorem_demands.specs.Cases.{SameTimetables}
-use Rattle.theorem_demands.specs.Beside.{Holds, Sim}
+use Rattle.theorem_demands.specs.Beside.{StandsFor, Sim}
 use Rattle.theorem_demands.proofs.Tries.{turned}
 
 abbrev pub SameTables : ℕ → Table → Table → Type 0
@@ -24,7 +24,7 @@ SameTables n c d = Agree n c d
 
 -- Equal cells allow the same timetables. The other way: each cell is attained, so it is no larger than the other table's
 pub compare :
-    {s other : Plain.State} {c d : Table} {rs qs : List (RuleOn Point)} → Holds s c rs → Holds other d qs → Plain.liveCount s ≡ Plain.liveCount other
+    {s other : Plain.State} {c d : Table} {rs qs : List (RuleOn Point)} → StandsFor s c rs → StandsFor other d qs → Plain.liveCount s ≡ Plain.liveCount other
     → SameTables (Plain.liveCount s) c d ↔ SameTimetables (book s rs) (book other qs)
 compare {s} {other} {c} {d} {rs} {qs} h g e = (to, of)
   where

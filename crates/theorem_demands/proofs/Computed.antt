@@ -29,8 +29,8 @@ offer-length = refl
 abbrev pub Computes : Case → Type 0
 Computes c =
     (leb (c .settings .horizon) bias ≡ true)
-    × (Tidy.rules (Model.fresh (c .settings)) (c .calls) ≡ c .rulings)
-    × (allShown (Tidy.runs (Model.fresh (c .settings)) (c .calls)) (c .expects) ≡ true)
+    × (Tidy.rulings (Model.fresh (c .settings)) (c .calls) ≡ c .rulings)
+    × (allShown (Tidy.boardAfter (Model.fresh (c .settings)) (c .calls)) (c .expects) ≡ true)
 
 abbrev pub AllCompute : List Case → Type 0
 AllCompute [] = Unit {0}

@@ -13,14 +13,14 @@ use Rattle.base_masks.specs.Mask.{share, join, strike, lowest}
 use Rattle.read_facts.specs.Regression.{undoes, regressed, backOver, lacking, atStart, factRuling}
 use Rattle.read_plant.specs.Plant.{isMark, trailerOf, badLayout, recordStart, badHead, badRecord, badDuration, badAllocation, someBadAllocation, badAction, recordAt, recordRuling, plantRuling}
 use Rattle.read_offer.specs.Offer.{knownOf, goalOf, stepStart, stepAt, stepRuling, offerRuling, actionOf, chainFrom, consistencyRuling, chainRuling, factCheck}
-use Rattle.spec_plain.specs.Plain.{total, liveCount, notBefore, notAfter, overBy, inOrder, durations, orElse, afterNewest, batchRules, full, joining, drafted, inserted, ruleBefore, ruleAfter, usedFrom, placed, unsentAt, range, unsentPoints, marked, sentState, freeze, clockOk, clockState, starts, goes, over, staying, without, endsBy, allEndBy, leavingFrom, leaving}
-use Rattle.spec_stn.specs.Table.{earliest, latest, add, addAll, implied, grow, growAll, pick, oldNumber}
-use Rattle.spec_rulebook.specs.Reading.{recordOf, stepOf, putOf, stepsFrom, putsOfStep, putsFrom, offerOf, past, readingOf}
+use Rattle.spec_plain.specs.Plain.{total, liveCount, notBefore, notAfter, overBy, inOrder, durations, orElse, afterNewest, batchRules, full, joining, drafted, inserted, ruleBefore, ruleAfter, usedFrom, placed, unsentAt, range, unsentPoints, sentUpTo, sentState, freeze, clockOk, clockState, starts, goes, newNumber, staying, without, endsBy, allEndBy, leavingFrom, leaving}
+use Rattle.spec_stn.specs.Table.{earliest, latest, add, addAll, entailsAll, grow, growAll, pick, oldNumber}
+use Rattle.spec_rulebook.specs.Reading.{recordOf, stepOf, allocationOf, stepsFrom, allocationsOfStep, allocationsFrom, offerOf, past, readingOf}
 use Rattle.spec_rulebook.specs.Book as Rulebook
-use Rattle.theorem_demands.specs.Model.{refusal, settled, planned, heard, retired, step}
+use Rattle.theorem_demands.specs.Model.{refusedWith, settled, decided, heard, departed, step}
 use Rattle.theorem_demands.specs.Model as Model
 use Rattle.base_lists.specs.Loops.{build}
-use Rattle.theorem_demands.specs.Tidy.{tidy, tidied, runs, rules}
+use Rattle.theorem_demands.specs.Tidy.{tidy, tidied, boardAfter, rulings}
 
 unfoldable pub recordOpen : Unit {0}
 unfolding word share isMark trailerOf recordStart badHead badRecord badDuration badAllocation someBadAllocation badAction
@@ -39,7 +39,7 @@ unfolding knownOf goalOf stepStart stepAt stepRuling offerRuling actionOf chainF
 offerOpen = tt
 
 unfoldable pub readingOpen : Unit {0}
-unfolding plantOpen factsOpen offerOpen recordOf stepOf putOf stepsFrom putsOfStep putsFrom offerOf past readingOf
+unfolding plantOpen factsOpen offerOpen recordOf stepOf allocationOf stepsFrom allocationsOfStep allocationsFrom offerOf past readingOf
 readingOpen = tt
 
 unfoldable pub placeOpen : Unit {0}
@@ -51,23 +51,23 @@ unfolding placeOpen total liveCount notBefore notAfter durations orElse afterNew
 planOpen = tt
 
 unfoldable pub sendOpen : Unit {0}
-unfolding unsentAt range unsentPoints marked sentState freeze clockOk clockState starts
+unfolding unsentAt range unsentPoints sentUpTo sentState freeze clockOk clockState starts
 sendOpen = tt
 
 unfoldable pub retireOpen : Unit {0}
-unfolding goes over overBy staying without endsBy allEndBy leavingFrom leaving
+unfolding goes newNumber overBy staying without endsBy allEndBy leavingFrom leaving
 retireOpen = tt
 
 unfoldable pub tableOpen : Unit {0}
-unfolding earliest latest add addAll implied grow growAll pick oldNumber
+unfolding earliest latest add addAll entailsAll grow growAll pick oldNumber
 tableOpen = tt
 
 unfoldable pub boardOpen : Unit {0}
-unfolding Rulebook.emptyLines Rulebook.fresh Model.fresh refusal settled planned heard retired step
+unfolding Rulebook.emptyLines Rulebook.fresh Model.fresh refusedWith settled decided heard departed step
 boardOpen = tt
 
 unfoldable pub tidyOpen : Unit {0}
-unfolding build tidy tidied runs rules
+unfolding build tidy tidied boardAfter rulings
 tidyOpen = tt
 
 unfoldable pub computing : Unit {0}

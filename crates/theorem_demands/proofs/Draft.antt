@@ -12,16 +12,16 @@ use lib.Dec.{T, eqb}
 use lib.ListN.{length}
 use Rattle.base_rulings.specs.Answer.{cause}
 use Rattle.spec_plain.specs.declared.Job.{Job}
-use Rattle.spec_plain.specs.declared.Put.{Put}
+use Rattle.spec_plain.specs.declared.Allocation.{Allocation}
 use Rattle.spec_plain.specs.declared.Rule.{Rule}
 use Rattle.spec_plain.specs.declared.Step.{Step}
 use Rattle.spec_plain.specs.declared.Use.{Use}
-use Rattle.spec_plain.specs.Plain.{Offer, State, Placed, Draft, total, liveCount, notBefore, durations, full, pointsOf, jobFrom, placed, joining, drafted, withJobs, withLines, trayGap, batchOf, orElse, afterNewest, batchRules}
+use Rattle.spec_plain.specs.Plain.{Offer, State, Placed, Draft, total, liveCount, notBefore, durations, full, newPoints, jobFrom, placed, joining, drafted, withJobs, withLines, trayGap, jobBatch, orElse, afterNewest, batchRules}
 use Rattle.read_plant.specs.Plant.{allocationCount}
 use Rattle.read_offer.specs.Offer.{stepCount}
 use Rattle.spec_stn.specs.Table.{bias, Table, Still, Within}
-use Rattle.spec_rulebook.specs.Reading.{recordOf, putOf, stepsFrom, putsOfStep, putsFrom, offerOf}
-use Rattle.theorem_demands.specs.Beside.{Each, StillJobs, LinesIn, JobsIn}
+use Rattle.spec_rulebook.specs.Reading.{recordOf, allocationOf, stepsFrom, allocationsOfStep, allocationsFrom, offerOf}
+use Rattle.theorem_demands.specs.Beside.{Each, StillJobs, LinesOfLive, AllHavePoints}
 use Rattle.theorem_demands.proofs.Jobs.{each-append, total-append, jobs-append}
 use Rattle.theorem_demands.proofs.Lines.{lines-wider, within-append, PutsIn, PlacedIn, placed-in}
 
@@ -37,18 +37,18 @@ unfolding Within orElse
 orElse-in n [] later a b = b
 orElse-in n (r ∷ rs) later a b = a
 
-newest-in : (n d b last x : ℕ) (js : List Job) → last < n → x + total js ≤ n → JobsIn js → Within n (afterNewest d b last x js)
-unfolding Within afterNewest total JobsIn
+newest-in : (n d b last x : ℕ) (js : List Job) → last < n → x + total js ≤ n → AllHavePoints js → Within n (afterNewest d b last x js)
+unfolding Within afterNewest total AllHavePoints
 newest-in n d b last x [] h le jobs = tt
 newest-in n d b last x (j ∷ js) h le jobs =
     orElse-in n (afterNewest d b last (x + j .points) js) _ (newest-in n d b last (x + j .points) js h (omega arith) (jobs .1))
-    (go (eqb (batchOf j) b))
+    (go (eqb (jobBatch j) b))
   where
     go : (q : Bool) → Within n (cond q (record { early = x + j .points - 1; more = d; late = last; slack = 0 } ∷ []) [])
     go true = (omega (arith, jobs .0), h, tt)
     go false = tt
 
-batch-in : (n d b last : ℕ) (js : List Job) → last < n → 1 + total js ≤ n → JobsIn js → Within n (batchRules d b last js)
+batch-in : (n d b last : ℕ) (js : List Job) → last < n → 1 + total js ≤ n → AllHavePoints js → Within n (batchRules d b last js)
 unfolding Within batchRules
 batch-in n d b last js h le jobs = go (eqb b 0)
   where
@@ -65,18 +65,18 @@ module _ (p o : List ℕ) where
   steps-length k (suc n) = ap suc (steps-length (k + 1) n)
 
   -- the allocations of step k, before others
-  step-in : (m k j n : ℕ) (ps : List Put) → k < m → PutsIn m ps → PutsIn m (putsOfStep p o k j n ++ ps)
-  unfolding PutsIn putsOfStep putOf
+  step-in : (m k j n : ℕ) (ps : List Allocation) → k < m → PutsIn m ps → PutsIn m (allocationsOfStep p o k j n ++ ps)
+  unfolding PutsIn allocationsOfStep allocationOf
   step-in m k j zero ps h a = a
   step-in m k j (suc n) ps h a = (h, step-in m k (j + 1) n ps h a)
 
-  puts-in : (m k n : ℕ) → k + n ≤ m → PutsIn m (putsFrom p o k n)
-  unfolding PutsIn putsFrom
+  puts-in : (m k n : ℕ) → k + n ≤ m → PutsIn m (allocationsFrom p o k n)
+  unfolding PutsIn allocationsFrom
   puts-in m k zero le = tt
   puts-in m k (suc n) le =
-      step-in m k 0 (allocationCount p (recordOf p o k)) (putsFrom p o (k + 1) n) (omega arith) (puts-in m (k + 1) n (omega arith))
+      step-in m k 0 (allocationCount p (recordOf p o k)) (allocationsFrom p o (k + 1) n) (omega arith) (puts-in m (k + 1) n (omega arith))
 
-  pub offer-in : PutsIn (length (offerOf p o .steps)) (offerOf p o .puts)
+  pub offer-in : PutsIn (length (offerOf p o .steps)) (offerOf p o .allocations)
   unfolding offerOf
   offer-in = rw (steps-length 0 (stepCount o)) (puts-in (stepCount o) 0 (stepCount o) (omega arith))
 
@@ -86,8 +86,8 @@ pub record Joins (s next : State) (n : ℕ) (rs : List Rule) : Type 0 where
   -- n new points stand behind the old ones
   pub points : liveCount next ≡ liveCount s + n
   pub within : Within (liveCount next) rs
-  pub lines : LinesIn (liveCount next) (next .lines)
-  pub jobs : JobsIn (next .jobs)
+  pub lines : LinesOfLive (liveCount next) (next .lines)
+  pub jobs : AllHavePoints (next .jobs)
   pub small : next .settings .horizon ≤ bias
   -- the new job is unsent
   pub still : (d : Table) → StillJobs d 1 (s .jobs) → StillJobs d 1 (next .jobs)
@@ -100,7 +100,7 @@ DraftIn s (Draft.go next n rs) = Joins s next n rs
 abbrev nextOf : State → Offer → List (List Use) → State
 nextOf s o ls = withLines (withJobs s (s .jobs ++ (jobFrom o ∷ []))) ls
 
-next-live : (s : State) (o : Offer) (ls : List (List Use)) → liveCount (nextOf s o ls) ≡ liveCount s + pointsOf o
+next-live : (s : State) (o : Offer) (ls : List (List Use)) → liveCount (nextOf s o ls) ≡ liveCount s + newPoints o
 unfolding liveCount total
 next-live s o ls = omega (arith, total-append (s .jobs) (jobFrom o ∷ []))
 
@@ -109,23 +109,23 @@ abbrev newRules : State → Offer → List Rule → List Rule
 newRules s o rs =
     notBefore (liveCount s) (s .clock + s .settings .lead)
     ∷ durations (liveCount s) (o .steps) ++ rs
-    ++ batchRules (trayGap (s .settings)) (batchOf (jobFrom o)) (liveCount s + length (o .steps)) (s .jobs)
+    ++ batchRules (trayGap (s .settings)) (jobBatch (jobFrom o)) (liveCount s + length (o .steps)) (s .jobs)
 
 module _
-    (s : State) (o : Offer) (lines : LinesIn (liveCount s) (s .lines)) (jobs : JobsIn (s .jobs)) (small : s .settings .horizon ≤ bias)
+    (s : State) (o : Offer) (lines : LinesOfLive (liveCount s) (s .lines)) (jobs : AllHavePoints (s .jobs)) (small : s .settings .horizon ≤ bias)
   where
-    rules-in : (n : ℕ) (rs : List Rule) → n ≡ liveCount s + pointsOf o → Within n rs → Within n (newRules s o rs)
+    rules-in : (n : ℕ) (rs : List Rule) → n ≡ liveCount s + newPoints o → Within n rs → Within n (newRules s o rs)
     unfolding Within notBefore liveCount
     rules-in n rs e w = (
       omega arith,
       omega arith,
       within-append n (durations (liveCount s) (o .steps) ++ rs) _
           (within-append n (durations (liveCount s) (o .steps)) rs (durations-in n (liveCount s) (o .steps) (omega arith)) w)
-          (batch-in n (trayGap (s .settings)) (batchOf (jobFrom o)) (liveCount s + length (o .steps)) (s .jobs) (omega arith) (omega arith) jobs),
+          (batch-in n (trayGap (s .settings)) (jobBatch (jobFrom o)) (liveCount s + length (o .steps)) (s .jobs) (omega arith) (omega arith) jobs),
     )
 
-    joining-in : (q : Placed) → PlacedIn (liveCount s + pointsOf o) q → DraftIn s (joining s o q)
-    unfolding DraftIn joining PlacedIn JobsIn Each
+    joining-in : (q : Placed) → PlacedIn (liveCount s + newPoints o) q → DraftIn s (joining s o q)
+    unfolding DraftIn joining PlacedIn AllHavePoints Each
     joining-in (Placed.stop c) a = tt
     joining-in (Placed.done ls rs) a =
         let e = next-live s o ls in
@@ -139,13 +139,13 @@ module _
               each-append (λ j i. T (j .sent) → Still d i) (s .jobs) (jobFrom o ∷ []) 1 was (λ y. ((λ i lo hi sent. absurd sent), tt));
         }
 
-    pub drafted-in : PutsIn (length (o .steps)) (o .puts) → DraftIn s (drafted s o)
+    pub drafted-in : PutsIn (length (o .steps)) (o .allocations) → DraftIn s (drafted s o)
     unfolding DraftIn drafted Within
-    drafted-in a = go (full s (pointsOf o))
+    drafted-in a = go (full s (newPoints o))
       where
-        go : (b : Bool) → DraftIn s (cond b (Draft.stop (cause 14 0)) (joining s o (placed (s .settings) (liveCount s) 0 (o .puts) (s .lines) [])))
+        go : (b : Bool) → DraftIn s (cond b (Draft.stop (cause 14 0)) (joining s o (placed (s .settings) (liveCount s) 0 (o .allocations) (s .lines) [])))
         go true = tt
         go false =
-            joining-in (placed (s .settings) (liveCount s) 0 (o .puts) (s .lines) [])
-            (placed-in (s .settings) (liveCount s + pointsOf o) (liveCount s) (length (o .steps)) 0 (o .puts) (s .lines) [] (omega arith) a
-            (lines-wider (liveCount s) (liveCount s + pointsOf o) (s .lines) (omega arith) lines) tt)
+            joining-in (placed (s .settings) (liveCount s) 0 (o .allocations) (s .lines) [])
+            (placed-in (s .settings) (liveCount s + newPoints o) (liveCount s) (length (o .steps)) 0 (o .allocations) (s .lines) [] (omega arith) a
+            (lines-wider (liveCount s) (liveCount s + newPoints o) (s .lines) (omega arith) lines) tt)

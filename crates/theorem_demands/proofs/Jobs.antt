@@ -14,7 +14,7 @@ use Rattle.spec_plain.specs.Plain.{total}
 use Rattle.spec_plain.specs.Rules.{Times}
 use Rattle.spec_stn.specs.Table.{Table, Closed, Fits, Still}
 use Rattle.spec_stn.proofs.Fits.{tight}
-use Rattle.theorem_demands.specs.Beside.{Each, StillJobs, JobsIn}
+use Rattle.theorem_demands.specs.Beside.{Each, StillJobs, AllHavePoints}
 
 -- the jobs' points are below n
 pub each-map :
@@ -50,7 +50,7 @@ unfolding total
 total-append [] ks = omega arith
 total-append (j ∷ js) ks = omega (arith, total-append js ks)
 
-pub jobs-append : (js ks : List Job) → JobsIn js → JobsIn ks → JobsIn (js ++ ks)
-unfolding JobsIn
+pub jobs-append : (js ks : List Job) → AllHavePoints js → AllHavePoints ks → AllHavePoints (js ++ ks)
+unfolding AllHavePoints
 jobs-append [] ks a b = b
 jobs-append (j ∷ js) ks a b = (a .0, jobs-append js ks (a .1) b)

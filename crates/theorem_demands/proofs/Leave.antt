@@ -18,14 +18,14 @@ use borrow.Author.Tests.{lt-ltb, le-ltb}
 use Rattle.spec_plain.specs.declared.Settings.{Settings}
 use Rattle.spec_plain.specs.declared.Job.{Job}
 use Rattle.spec_plain.specs.declared.Use.{Use}
-use Rattle.spec_plain.specs.Plain.{State, endOf, overBy, goes, over, staying, endsBy, allEndBy}
+use Rattle.spec_plain.specs.Plain.{State, endOf, overBy, goes, newNumber, staying, endsBy, allEndBy}
 use Rattle.spec_plain.specs.Rules.{Times, RuleOn, renamed}
 use Rattle.spec_plain.proofs.Rules.{kept-ext, kept-renamed}
 use Rattle.spec_stn.specs.Table.{Table, Within, pick, oldNumber}
 use Rattle.spec_stn.proofs.Pick.{old-low, old-high, new-lt, Number, leaves, stays, number, goes-old, over-old, spread, spread-stays}
 use Rattle.spec_rulebook.specs.Book.{Point, live, gone, completed, Possible, reindexed}
 use Rattle.theorem_demands.specs.Model.{book}
-use Rattle.theorem_demands.specs.Beside.{Each, StillJobs, LineIn, LinesIn}
+use Rattle.theorem_demands.specs.Beside.{Each, StillJobs, LineOfLive, LinesOfLive}
 use Rattle.theorem_demands.proofs.Lines.{within-append}
 
 -- ---- timetables
@@ -46,7 +46,7 @@ module _ (f m : ℕ) where
   unfolding reindexed
   reindexed-goes x e = rw e
 
-  reindexed-stays : (x : ℕ) → goes f m x ≡ false → reindexed f m (live x) ≡ live (over f m x)
+  reindexed-stays : (x : ℕ) → goes f m x ≡ false → reindexed f m (live x) ≡ live (newNumber f m x)
   unfolding reindexed
   reindexed-stays x e = rw e
 
@@ -111,31 +111,31 @@ still-after m c (j ∷ js) x z s = (
 )
 
 module _ (f m n : ℕ) (some : f ≤ n) where
-  line-after : (l : List Use) → LineIn (n + m) l → LineIn n (staying f m l)
-  unfolding LineIn staying
+  line-after : (l : List Use) → LineOfLive (n + m) l → LineOfLive n (staying f m l)
+  unfolding LineOfLive staying
   line-after [] a = tt
   line-after (u ∷ l) a = go (number f m (u .point)) (line-after l (a .1))
     where
       kept : List Use
-      kept = record { point = over f m (u .point); offset = u .offset; length = u .length } ∷ []
+      kept = record { point = newNumber f m (u .point); offset = u .offset; length = u .length } ∷ []
 
-      go : Number f m (u .point) → LineIn n (staying f m l) → LineIn n (cond (goes f m (u .point)) [] kept ++ staying f m l)
+      go : Number f m (u .point) → LineOfLive n (staying f m l) → LineOfLive n (cond (goes f m (u .point)) [] kept ++ staying f m l)
       go (leaves lo hi e) rest = rw e rest
       go (stays o e) rest =
-          let y : ℕ = over f m (u .point) in
+          let y : ℕ = newNumber f m (u .point) in
           let high : oldNumber f m y < n + m = subst (λ (k : ℕ). k < n + m) o (a .0) in
           rw e (new-lt f m n y some high, rest)
 
-  pub lines-after : (ls : List (List Use)) → LinesIn (n + m) ls → LinesIn n (map (staying f m) ls)
-  unfolding LinesIn
+  pub lines-after : (ls : List (List Use)) → LinesOfLive (n + m) ls → LinesOfLive n (map (staying f m) ls)
+  unfolding LinesOfLive
   lines-after [] a = tt
   lines-after (l ∷ ls) a = (line-after l (a .0), lines-after ls (a .1))
 
 -- ---- all is over by c
 
 module _ (s : Settings) (n c f m : ℕ) (z : 0 < n) where
-  line-ends : (l : List Use) → LineIn n l → Within n (endsBy s c f m l)
-  unfolding Within LineIn endsBy overBy
+  line-ends : (l : List Use) → LineOfLive n l → Within n (endsBy s c f m l)
+  unfolding Within LineOfLive endsBy overBy
   line-ends [] a = tt
   line-ends (u ∷ l) a = go (goes f m (u .point)) (line-ends l (a .1))
     where
@@ -145,8 +145,8 @@ module _ (s : Settings) (n c f m : ℕ) (z : 0 < n) where
       go true rest = (a .0, z, rest)
       go false rest = rest
 
-  pub ends-within : (ls : List (List Use)) → LinesIn n ls → Within n (allEndBy s c f m ls)
-  unfolding Within LinesIn allEndBy
+  pub ends-within : (ls : List (List Use)) → LinesOfLive n ls → Within n (allEndBy s c f m ls)
+  unfolding Within LinesOfLive allEndBy
   ends-within [] a = tt
   ends-within (l ∷ ls) a =
       within-append n (endsBy s c f m l) (allEndBy s c f m ls) (line-ends l (a .0)) (ends-within ls (a .1))

@@ -15,44 +15,44 @@ use Rattle.base_rulings.specs.Answer.{cause}
 use Rattle.spec_plain.specs.Limits.{mostUses}
 use Rattle.spec_plain.specs.declared.Settings.{Settings}
 use Rattle.spec_plain.specs.declared.Use.{Use}
-use Rattle.spec_plain.specs.declared.Put.{Put}
+use Rattle.spec_plain.specs.declared.Allocation.{Allocation}
 use Rattle.spec_plain.specs.declared.Rule.{Rule}
 use Rattle.spec_plain.specs.Plain.{noUse, inOrder, inserted, ruleBefore, ruleAfter, usedFrom, placed, Placed}
 use Rattle.spec_stn.specs.Table.{Within}
-use Rattle.theorem_demands.specs.Beside.{LineIn, LinesIn}
+use Rattle.theorem_demands.specs.Beside.{LineOfLive, LinesOfLive}
 
 -- ---- lines
 
-use-in : (n p : ℕ) (l : List Use) → 0 < n → LineIn n l → getD l p noUse .point < n
-unfolding LineIn
+use-in : (n p : ℕ) (l : List Use) → 0 < n → LineOfLive n l → getD l p noUse .point < n
+unfolding LineOfLive
 use-in n p [] z a = z
 use-in n zero (u ∷ l) z a = a .0
 use-in n (suc p) (u ∷ l) z a = use-in n p l z (a .1)
 
-line-wider : (n k : ℕ) (l : List Use) → n ≤ k → LineIn n l → LineIn k l
-unfolding LineIn
+line-wider : (n k : ℕ) (l : List Use) → n ≤ k → LineOfLive n l → LineOfLive k l
+unfolding LineOfLive
 line-wider n k [] le a = tt
 line-wider n k (u ∷ l) le a = (omega (arith, a .0), line-wider n k l le (a .1))
 
-pub lines-wider : (n k : ℕ) (ls : List (List Use)) → n ≤ k → LinesIn n ls → LinesIn k ls
-unfolding LinesIn
+pub lines-wider : (n k : ℕ) (ls : List (List Use)) → n ≤ k → LinesOfLive n ls → LinesOfLive k ls
+unfolding LinesOfLive
 lines-wider n k [] le a = tt
 lines-wider n k (l ∷ ls) le a = (line-wider n k l le (a .0), lines-wider n k ls le (a .1))
 
-lines-get : (n r : ℕ) (ls : List (List Use)) → LinesIn n ls → LineIn n (getD ls r [])
-unfolding LinesIn LineIn
+lines-get : (n r : ℕ) (ls : List (List Use)) → LinesOfLive n ls → LineOfLive n (getD ls r [])
+unfolding LinesOfLive LineOfLive
 lines-get n r [] a = tt
 lines-get n zero (l ∷ ls) a = a .0
 lines-get n (suc r) (l ∷ ls) a = lines-get n r ls (a .1)
 
-lines-set : (n r : ℕ) (ls : List (List Use)) (l : List Use) → LinesIn n ls → LineIn n l → LinesIn n (set ls r l)
-unfolding LinesIn
+lines-set : (n r : ℕ) (ls : List (List Use)) (l : List Use) → LinesOfLive n ls → LineOfLive n l → LinesOfLive n (set ls r l)
+unfolding LinesOfLive
 lines-set n r [] l a b = tt
 lines-set n zero (x ∷ ls) l a b = (b, a .1)
 lines-set n (suc r) (x ∷ ls) l a b = (a .0, lines-set n r ls l (a .1) b)
 
-inserted-in : (n p : ℕ) (u : Use) (l : List Use) → u .point < n → LineIn n l → LineIn n (inserted p u l)
-unfolding LineIn inserted
+inserted-in : (n p : ℕ) (u : Use) (l : List Use) → u .point < n → LineOfLive n l → LineOfLive n (inserted p u l)
+unfolding LineOfLive inserted
 inserted-in n zero u l h a = (h, a)
 inserted-in n (suc p) u [] h a = (h, tt)
 inserted-in n (suc p) u (x ∷ l) h a = (a .0, inserted-in n p u l h (a .1))
@@ -64,12 +64,12 @@ unfolding Within
 within-append n [] ss a b = b
 within-append n (r ∷ rs) ss a b = (a .0, a .1, within-append n rs ss (a .2) b)
 
-before-within : (s : Settings) (n p : ℕ) (l : List Use) (u : Use) → 0 < n → LineIn n l → u .point < n → Within n (ruleBefore s l p u)
+before-within : (s : Settings) (n p : ℕ) (l : List Use) (u : Use) → 0 < n → LineOfLive n l → u .point < n → Within n (ruleBefore s l p u)
 unfolding Within ruleBefore inOrder
 before-within s n zero l u z a h = tt
 before-within s n (suc p) l u z a h = (use-in n p l z a, h, tt)
 
-after-within : (s : Settings) (n p : ℕ) (l : List Use) (u : Use) → 0 < n → LineIn n l → u .point < n → Within n (ruleAfter s l p u)
+after-within : (s : Settings) (n p : ℕ) (l : List Use) (u : Use) → 0 < n → LineOfLive n l → u .point < n → Within n (ruleAfter s l p u)
 unfolding Within ruleAfter inOrder
 after-within s n p l u z a h = go (ltb p (length l))
   where
@@ -79,18 +79,18 @@ after-within s n p l u z a h = go (ltb p (length l))
 
 -- ---- placing
 
-unfoldable pub PutsIn : ℕ → List Put → Type 0
+unfoldable pub PutsIn : ℕ → List Allocation → Type 0
 PutsIn k [] = Unit {0}
 PutsIn k (p ∷ ps) = (p .step < k) × PutsIn k ps
 
 unfoldable pub PlacedIn : ℕ → Placed → Type 0
 PlacedIn n (Placed.stop c) = Unit {0}
-PlacedIn n (Placed.done ls rs) = LinesIn n ls × Within n rs
+PlacedIn n (Placed.done ls rs) = LinesOfLive n ls × Within n rs
 
 -- x is p0 of the job, and k the number of its steps
 pub placed-in :
-    (s : Settings) (n x k i : ℕ) (ps : List Put) (ls : List (List Use)) (rs : List Rule) → x + k ≤ n
-    → PutsIn k ps → LinesIn n ls → Within n rs → PlacedIn n (placed s x i ps ls rs)
+    (s : Settings) (n x k i : ℕ) (ps : List Allocation) (ls : List (List Use)) (rs : List Rule) → x + k ≤ n
+    → PutsIn k ps → LinesOfLive n ls → Within n rs → PlacedIn n (placed s x i ps ls rs)
 unfolding PutsIn PlacedIn placed usedFrom
 placed-in s n x k i [] ls rs le a b w = (b, w)
 placed-in s n x k i (p ∷ ps) ls rs le a b w =
@@ -112,13 +112,13 @@ placed-in s n x k i (p ∷ ps) ls rs le a b w =
     rules : List Rule
     rules = rs ++ (before ++ behind)
 
-    line-in : LineIn n line
+    line-in : LineOfLive n line
     line-in = lines-get n (p .resource) ls b
 
     point-in : usedFrom x p .point < n
     point-in = omega (arith, a .0)
 
-    after-in : LinesIn n after
+    after-in : LinesOfLive n after
     after-in =
         lines-set n (p .resource) ls (inserted (p .place) (usedFrom x p) line) b
         (inserted-in n (p .place) (usedFrom x p) line point-in line-in)

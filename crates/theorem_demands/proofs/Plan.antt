@@ -17,13 +17,13 @@ use Rattle.spec_stn.proofs.Grow.{growAll-closed, growAll-fits}
 use Rattle.spec_rulebook.specs.Reading.{Reading, good, offerOf, past, readingOf}
 use Rattle.spec_rulebook.proofs.Reading.{reading-rules}
 use Rattle.spec_rulebook.specs.Book.{Point, made, Settles, Plans, Reads}
-use Rattle.theorem_demands.specs.Model.{book, board, settled, planned, heard}
-use Rattle.theorem_demands.specs.Beside.{StillJobs, Holds, Mirrors}
+use Rattle.theorem_demands.specs.Model.{book, board, settled, decided, heard}
+use Rattle.theorem_demands.specs.Beside.{StillJobs, StandsFor, Mirrors}
 use Rattle.theorem_demands.proofs.Jobs.{still-tight, still-jobs}
 use Rattle.theorem_demands.proofs.Tries.{live-positive, refuse-mirrors, Tries, try-mirrors}
 use Rattle.theorem_demands.proofs.Draft.{Joins, DraftIn, drafted-in, offer-in}
 
-module _ {s : Plain.State} {c : Table} {rs : List (RuleOn Point)} (h : Holds s c rs) where
+module _ {s : Plain.State} {c : Table} {rs : List (RuleOn Point)} (h : StandsFor s c rs) where
   -- the latest time of a new point
   abbrev top : ℕ
   top = Plain.upperBound (s .settings)
@@ -54,8 +54,8 @@ module _ {s : Plain.State} {c : Table} {rs : List (RuleOn Point)} (h : Holds s c
             small = j .small;
           }
 
-  pub plan-mirrors : (q : Plain.Draft) → DraftIn s q → Mirrors (Plans (book s rs) q) (planned (board s c) q)
-  unfolding DraftIn Plans planned
+  pub plan-mirrors : (q : Plain.Draft) → DraftIn s q → Mirrors (Plans (book s rs) q) (decided (board s c) q)
+  unfolding DraftIn Plans decided
   plan-mirrors (Plain.Draft.stop x) a = refuse-mirrors h x
   plan-mirrors (Plain.Draft.go next n news) a = joins-mirrors next n news a
 

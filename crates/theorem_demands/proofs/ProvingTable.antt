@@ -18,7 +18,7 @@ comes : (c : Case) → Computes c → Comes c
 comes c e =
     let s = c .settings in
     fresh-runs s (leb-true (s .horizon) bias (e .0)) (c .calls) (c .rulings) (e .1) (λ (k : Book). AllMeet k (c .expects))
-    (λ k m. all-meet (Tidy.runs (Model.fresh s) (c .calls)) k m (c .expects) (e .2))
+    (λ k m. all-meet (Tidy.boardAfter (Model.fresh s) (c .calls)) k m (c .expects) (e .2))
 
 all-come : (cs : List Case) → AllCompute cs → AllCome cs
 all-come [] e = tt

@@ -17,12 +17,12 @@ use Rattle.spec_plain.specs.declared.Job.{Job}
 use Rattle.spec_plain.specs.declared.Rule.{Rule}
 use Rattle.spec_plain.specs.Plain
 use Rattle.spec_plain.specs.Rules.{Times, RuleOn, renamed}
-use Rattle.spec_stn.specs.Table.{Table, Closed, Fits, Still, Within, implied, pick, oldNumber}
+use Rattle.spec_stn.specs.Table.{Table, Closed, Fits, Still, Within, entailsAll, pick, oldNumber}
 use Rattle.spec_stn.proofs.Fits.{implied-yes, implied-no}
 use Rattle.spec_stn.proofs.Pick.{pick-closed, pick-fits, old-low, old-lt, spread, spread-origin, spread-fits}
-use Rattle.spec_rulebook.specs.Book.{Book, Point, Possible, reindexed, Always, Retires}
-use Rattle.theorem_demands.specs.Model.{book, board, refusal, retired}
-use Rattle.theorem_demands.specs.Beside.{Each, JobsIn, Holds, Mirrors}
+use Rattle.spec_rulebook.specs.Book.{Book, Point, Possible, reindexed, Entails, Retires}
+use Rattle.theorem_demands.specs.Model.{book, board, refusedWith, departed}
+use Rattle.theorem_demands.specs.Beside.{Each, AllHavePoints, StandsFor, Mirrors}
 use Rattle.theorem_demands.proofs.Tries.{live-positive, beside, refuse-mirrors, chosen, not-chosen}
 use Rattle.theorem_demands.proofs.Leave.{after-possible, before-possible, still-after, lines-after, ends-within}
 
@@ -47,15 +47,15 @@ module _ (s : Plain.State) (j : Job) (js : List Job) where
   unfolding Plain.without Plain.liveCount Plain.total
   was-live = omega arith
 
-  module _ {c : Table} {rs : List (RuleOn Point)} (h : Holds was c rs) where
+  module _ {c : Table} {rs : List (RuleOn Point)} (h : StandsFor was c rs) where
     abbrev table : Table
     table = pick (oldNumber 1 (j .points)) c
 
     abbrev after : List (RuleOn Point)
     after = map (renamed (reindexed 1 (j .points))) rs
 
-    retire-holds : T (j .sent) → Holds is table after
-    unfolding Plain.without Each JobsIn
+    retire-holds : T (j .sent) → StandsFor is table after
+    unfolding Plain.without Each AllHavePoints
     retire-holds sent =
         record {
           closed = pick-closed (Plain.liveCount is) (Plain.liveCount is + j .points) (oldNumber 1 (j .points)) c closed origin below;
@@ -102,32 +102,32 @@ module _ (s : Plain.State) (j : Job) (js : List Job) where
       ends-within (s .settings) (Plain.liveCount was) (s .clock) 1 (j .points) (live-positive was) (s .lines) (h .lines),
     )
 
-    always-implied : Always (book was rs) ends ↔ T (implied c ends)
-    unfolding Always
+    always-implied : Entails (book was rs) ends ↔ T (entailsAll c ends)
+    unfolding Entails
     always-implied = (
       λ a. implied-no (Plain.liveCount was) c ends (h .closed) ends-in (λ t o f. a t (h .same t .0 (o, f))),
       λ i u p. implied-yes (Plain.liveCount was) c ends ends-in i u (h .same u .1 p .1),
     )
 
-    sent-mirrors : T (j .sent) → Mirrors (Leaves rs) (retired (board was c) (Plain.Leaving.go (j .points) ends is))
-    unfolding retired Retires
-    sent-mirrors sent = go (implied c ends) refl
+    sent-mirrors : T (j .sent) → Mirrors (Leaves rs) (departed (board was c) (Plain.Leaving.go (j .points) ends is))
+    unfolding departed Retires
+    sent-mirrors sent = go (entailsAll c ends) refl
       where
         go :
-            (b : Bool) → implied c ends ≡ b
+            (b : Bool) → entailsAll c ends ≡ b
             → Mirrors (Leaves rs)
-            (elim b [ true ↦ record { ruling = Accepted; board = board is table } | false ↦ refusal (board was c) (plain 21) ])
+            (elim b [ true ↦ record { ruling = Accepted; board = board is table } | false ↦ refusedWith (board was c) (plain 21) ])
         go true e = chosen (book was rs) (plain 21) (always-implied .1 (subst T (sym e) tt)) (beside (retire-holds sent))
         go false e = not-chosen (book is after) (plain 21) (λ a. subst T e (always-implied .0 a)) h
 
-    oldest-mirrors : Mirrors (Retires (book was rs) (Plain.leavingFrom was (j ∷ js))) (retired (board was c) (Plain.leavingFrom was (j ∷ js)))
-    unfolding Plain.leavingFrom Retires retired
+    oldest-mirrors : Mirrors (Retires (book was rs) (Plain.leavingFrom was (j ∷ js))) (departed (board was c) (Plain.leavingFrom was (j ∷ js)))
+    unfolding Plain.leavingFrom Retires departed
     oldest-mirrors = go (j .sent) (λ b. b)
       where
         go :
             (b : Bool) → (T b → T (j .sent))
             → Mirrors (Retires (book was rs) (cond b (Plain.Leaving.go (j .points) ends is) Plain.Leaving.stop))
-            (retired (board was c) (cond b (Plain.Leaving.go (j .points) ends is) Plain.Leaving.stop))
+            (departed (board was c) (cond b (Plain.Leaving.go (j .points) ends is) Plain.Leaving.stop))
         go true sent = sent-mirrors (sent tt)
         go false sent = refuse-mirrors h (plain 21)
 
@@ -135,13 +135,13 @@ module _ (s : Plain.State) (j : Job) (js : List Job) where
 by-jobs :
     (s : Plain.State) (js : List Job) {c : Table} {rs : List (RuleOn Point)}
     → let t : Plain.State = Plain.withJobs s js in
-    Holds t c rs → Mirrors (Retires (book t rs) (Plain.leavingFrom t js)) (retired (board t c) (Plain.leavingFrom t js))
-unfolding Plain.leavingFrom Retires retired
+    StandsFor t c rs → Mirrors (Retires (book t rs) (Plain.leavingFrom t js)) (departed (board t c) (Plain.leavingFrom t js))
+unfolding Plain.leavingFrom Retires departed
 by-jobs s [] h = refuse-mirrors h (plain 21)
 by-jobs s (j ∷ js) h = oldest-mirrors s j js h
 
 pub retire-mirrors :
-    {s : Plain.State} {c : Table} {rs : List (RuleOn Point)} → Holds s c rs
-    → Mirrors (Retires (book s rs) (Plain.leaving s)) (retired (board s c) (Plain.leaving s))
+    {s : Plain.State} {c : Table} {rs : List (RuleOn Point)} → StandsFor s c rs
+    → Mirrors (Retires (book s rs) (Plain.leaving s)) (departed (board s c) (Plain.leaving s))
 unfolding Plain.leaving
 retire-mirrors {s} h = by-jobs s (s .jobs) h

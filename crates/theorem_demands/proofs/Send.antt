@@ -26,7 +26,7 @@ use Rattle.spec_stn.proofs.Fits.{implied-of, soonest-fits, soonest-origin}
 use Rattle.spec_stn.proofs.Add.{Added, addAll-added}
 use Rattle.spec_rulebook.specs.Book.{Point, AllLeast, made, Sends}
 use Rattle.theorem_demands.specs.Model.{book, board, settled, sendPoints, sending}
-use Rattle.theorem_demands.specs.Beside.{Each, StillJobs, JobsIn, Holds, Mirrors}
+use Rattle.theorem_demands.specs.Beside.{Each, StillJobs, AllHavePoints, StandsFor, Mirrors}
 use Rattle.theorem_demands.proofs.Jobs.{still-tight, still-jobs}
 use Rattle.theorem_demands.proofs.Tries.{live-positive, beside, Tries, Outcome, tried}
 use Rattle.theorem_demands.proofs.Values.{least-at, least-is}
@@ -40,7 +40,7 @@ freeze-within n v (x ∷ xs) z a = (z, a .0, (a .0, z, freeze-within n v xs z (a
 
 -- ---- least values
 
-module _ {s : Plain.State} {c : Table} {rs : List (RuleOn Point)} (h : Holds s c rs) where
+module _ {s : Plain.State} {c : Table} {rs : List (RuleOn Point)} (h : StandsFor s c rs) where
   least-all : (xs : List ℕ) → Below (Plain.liveCount s) xs → AllLeast (book s rs) (earliest c) xs
   unfolding AllLeast
   least-all [] a = tt
@@ -101,8 +101,8 @@ still-rest d (x ∷ xs) ys s = still-rest d xs ys (s .1)
 -- the jobs sent before stand still as they did, and those sent now because their points are set
 still-marked :
     (c d : Table) (n k : ℕ) → ((i : ℕ) → i < n → Still c i → Still d i) → (js : List Job) (x : ℕ) → x + Plain.total js ≤ n
-    → StillAll d (Plain.unsentPoints x k js) → StillJobs c x js → StillJobs d x (Plain.marked k js)
-unfolding Each Plain.total Plain.unsentPoints Plain.marked
+    → StillAll d (Plain.unsentPoints x k js) → StillJobs c x js → StillJobs d x (Plain.sentUpTo k js)
+unfolding Each Plain.total Plain.unsentPoints Plain.sentUpTo
 still-marked c d n zero f js x le a s = still-jobs c d n f js x le s
 still-marked c d n (suc k) f [] x le a s = tt
 still-marked c d n (suc k) f (j ∷ js) x le a s = (
@@ -119,8 +119,8 @@ still-marked c d n (suc k) f (j ∷ js) x le a s = (
 
 -- ---- the state to be
 
-pub total-marked : (k : ℕ) (js : List Job) → Plain.total (Plain.marked k js) ≡ Plain.total js
-unfolding Plain.total Plain.marked
+pub total-marked : (k : ℕ) (js : List Job) → Plain.total (Plain.sentUpTo k js) ≡ Plain.total js
+unfolding Plain.total Plain.sentUpTo
 total-marked zero js = refl
 total-marked (suc k) [] = refl
 total-marked (suc k) (j ∷ js) = ap (λ (n : ℕ). j .points + n) (total-marked k js)
@@ -129,15 +129,15 @@ pub live-sent : (s : Plain.State) (place : ℕ) → Plain.liveCount (Plain.sentS
 unfolding Plain.liveCount Plain.sentState
 live-sent s place = ap suc (total-marked (suc place) (s .jobs))
 
-jobs-marked : (k : ℕ) (js : List Job) → JobsIn js → JobsIn (Plain.marked k js)
-unfolding JobsIn Plain.marked
+jobs-marked : (k : ℕ) (js : List Job) → AllHavePoints js → AllHavePoints (Plain.sentUpTo k js)
+unfolding AllHavePoints Plain.sentUpTo
 jobs-marked zero js a = a
 jobs-marked (suc k) [] a = tt
 jobs-marked (suc k) (j ∷ js) a = (a .0, jobs-marked k js (a .1))
 
 -- ---- the step
 
-module _ {s : Plain.State} {c : Table} {rs : List (RuleOn Point)} (h : Holds s c rs) (place : ℕ) where
+module _ {s : Plain.State} {c : Table} {rs : List (RuleOn Point)} (h : StandsFor s c rs) (place : ℕ) where
   abbrev next : Plain.State
   next = Plain.sentState s place
 
@@ -165,7 +165,7 @@ module _ {s : Plain.State} {c : Table} {rs : List (RuleOn Point)} (h : Holds s c
   send-still :
       (d : Table) → Closed (Plain.liveCount s) d
       → ((t : Times) → t 0 ≡ pos 0 → Fits (Plain.liveCount s) d t → Fits (Plain.liveCount s) c t × KeepsAll t sets)
-      → StillJobs d 1 (Plain.marked (suc place) (s .jobs))
+      → StillJobs d 1 (Plain.sentUpTo (suc place) (s .jobs))
   unfolding Plain.liveCount
   send-still d cl f =
       let keep = still-tight (Plain.liveCount s) (Plain.liveCount s) c d cl (live-positive s) (omega arith) (λ t o g. f t o g .0) in

@@ -15,8 +15,8 @@ pub first-append : (js : List Job) (j : Job) → j .sent ≡ false → SentFirst
 first-append [] j u a = ((λ t. tt), tt)
 first-append (i ∷ js) j u a = ((λ t. none-append js j u (a .0 t)), first-append js j u (a .1))
 
-pub first-marked : (n : ℕ) (js : List Job) → SentFirst js → SentFirst (Plain.marked n js)
-unfolding Plain.marked
+pub first-marked : (n : ℕ) (js : List Job) → SentFirst js → SentFirst (Plain.sentUpTo n js)
+unfolding Plain.sentUpTo
 first-marked zero js a = a
 first-marked (suc n) [] a = tt
 first-marked (suc n) (j ∷ js) a = ((λ e. absurd (true≢false e)), first-marked n js (a .1))

@@ -129,8 +129,8 @@ module _ (b : Board) (k : Book) (m : Sim b k) where
       let q = both-true (readable p o) _ e in
       λ run. refused-is (factCheck p o) (q .1) (readable-right p o (q .0) .1 run)
   shown-meets (same s cs rs) e =
-      let end = Tidy.runs (Model.fresh s) cs in
-      let ruled = Tidy.rules (Model.fresh s) cs in
+      let end = Tidy.boardAfter (Model.fresh s) cs in
+      let ruled = Tidy.rulings (Model.fresh s) cs in
       let p = both-true (leb (s .horizon) bias) _ e in
       let q = both-true (sameRulings ruled rs) (sameBoards b end) (p .1) in
       fresh-runs s (leb-true _ _ (p .0)) cs rs (same-rulings ruled rs (q .0)) (EqualTables k) (λ other n. same-meets end other n (q .1))

@@ -19,21 +19,21 @@ use Rattle.spec_stn.specs.Table.{bias, Table}
 use Rattle.spec_stn.proofs.Fits.{fits-of}
 use Rattle.spec_rulebook.specs.Book.{Book, Point, Call, plan, send, clock, retire, Possible, made, Guarded, Settles, Sends, Step, emptyLines}
 use Rattle.spec_rulebook.specs.Book as Rulebook
-use Rattle.theorem_demands.specs.Model.{Board, Answer, book, board, refusal, sendPoints, sending, clocking, step}
+use Rattle.theorem_demands.specs.Model.{Board, AbstractRuled, book, board, refusedWith, sendPoints, sending, clocking, step}
 use Rattle.theorem_demands.specs.Model as Model
-use Rattle.theorem_demands.specs.Beside.{Each, LineIn, LinesIn, JobsIn, Holds, Sim, Mirrors}
+use Rattle.theorem_demands.specs.Beside.{Each, LineOfLive, LinesOfLive, AllHavePoints, StandsFor, Sim, Mirrors}
 use Rattle.theorem_demands.proofs.Tries.{turned, refuse-mirrors}
 use Rattle.theorem_demands.proofs.Clock.{clock-mirrors}
 use Rattle.theorem_demands.proofs.Send.{send-mirrors}
 use Rattle.theorem_demands.proofs.Plan.{read-mirrors}
 use Rattle.theorem_demands.proofs.Retire.{retire-mirrors}
 
-module _ {s : Plain.State} {c : Table} {rs : List (RuleOn Point)} (h : Holds s c rs) where
+module _ {s : Plain.State} {c : Table} {rs : List (RuleOn Point)} (h : StandsFor s c rs) where
   -- a call that is refused with a number where a test fails
   guarded :
-      (b : Bool) (n : ℕ) (R : Ruling → Book → Type 0) (a : Answer) → Mirrors R a
+      (b : Bool) (n : ℕ) (R : Ruling → Book → Type 0) (a : AbstractRuled) → Mirrors R a
       → Mirrors (Guarded b n (book s rs) R)
-      (elim b [ true ↦ a | false ↦ refusal (board s c) (plain n) ])
+      (elim b [ true ↦ a | false ↦ refusedWith (board s c) (plain n) ])
   unfolding Guarded
   guarded true n R a m = m
   guarded false n R a m = refuse-mirrors h (plain n)
@@ -70,14 +70,14 @@ module _ {bd : Board} {bk : Book} (m : Sim bd bk) where
 
 -- ---- the fresh board
 
-empty-in : (n k : ℕ) → LinesIn n (emptyLines k)
-unfolding LinesIn LineIn emptyLines
+empty-in : (n k : ℕ) → LinesOfLive n (emptyLines k)
+unfolding LinesOfLive LineOfLive emptyLines
 empty-in n zero = tt
 empty-in n (suc k) = (tt, empty-in n k)
 
 -- one point: every timetable fits, and no rule is made
 pub fresh-sim : (s : Settings) → s .horizon ≤ bias → Sim (Model.fresh s) (Rulebook.fresh s)
-unfolding Model.fresh Rulebook.fresh JobsIn Each Plain.liveCount Plain.total Possible AllKept
+unfolding Model.fresh Rulebook.fresh AllHavePoints Each Plain.liveCount Plain.total Possible AllKept
 fresh-sim s le =
     record {
       state = refl;

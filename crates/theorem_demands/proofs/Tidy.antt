@@ -21,14 +21,14 @@ use Rattle.spec_rulebook.specs.Book.{Book, Point, Call, Runs}
 use Rattle.spec_rulebook.specs.Book as Rulebook
 use Rattle.theorem_demands.specs.Model.{Board, step}
 use Rattle.theorem_demands.specs.Model as Model
-use Rattle.theorem_demands.specs.Beside.{Holds, Sim}
-use Rattle.theorem_demands.specs.Tidy.{tidy, tidied, runs, rules}
+use Rattle.theorem_demands.specs.Beside.{StandsFor, Sim}
+use Rattle.theorem_demands.specs.Tidy.{tidy, tidied, boardAfter, rulings}
 use Rattle.theorem_demands.specs.Cases.{RunsTo}
 use Rattle.theorem_demands.proofs.Jobs.{still-jobs}
 use Rattle.theorem_demands.proofs.Tries.{live-positive}
 use Rattle.theorem_demands.proofs.Step.{sim-keeps, sim-exists, fresh-sim}
 
-pub holds-agree : {s : Plain.State} {c : Table} {rs : List (RuleOn Point)} (d : Table) → Agree (Plain.liveCount s) c d → Holds s c rs → Holds s d rs
+pub holds-agree : {s : Plain.State} {c : Table} {rs : List (RuleOn Point)} (d : Table) → Agree (Plain.liveCount s) c d → StandsFor s c rs → StandsFor s d rs
 unfolding Plain.liveCount
 holds-agree {s} {c} d e h =
     record {
@@ -67,34 +67,34 @@ sim-tidied {bd} m =
 
 pub runs-keep :
     {bd : Board} {bk : Book} → Sim bd bk → (cs : List Call) (rs : List Ruling) (k : Book) → Runs bk cs rs k
-    → (rs ≡ rules bd cs) × Sim (runs bd cs) k
-unfolding Runs rules runs
+    → (rs ≡ rulings bd cs) × Sim (boardAfter bd cs) k
+unfolding Runs rulings boardAfter
 runs-keep m [] rs k p = (p .0, rw (p .1) m)
 runs-keep m (c ∷ cs) rs k p =
     let q = sim-keeps m c (p .0) (p .1) (p .3) in
     let t = runs-keep (sim-tidied (q .1)) cs (p .2) k (p .5) in
     (p .4 ∙ ap₂ _∷_ (q .0) (t .0), t .1)
 
-pub runs-exist : {bd : Board} {bk : Book} → Sim bd bk → (cs : List Call) → (k : Book) × Runs bk cs (rules bd cs) k
-unfolding Runs rules
+pub runs-exist : {bd : Board} {bk : Book} → Sim bd bk → (cs : List Call) → (k : Book) × Runs bk cs (rulings bd cs) k
+unfolding Runs rulings
 runs-exist {bd} {bk} m [] = (bk, (refl, refl))
 runs-exist {bd} {bk} m (c ∷ cs) =
     let e = sim-exists m c in
     let q = sim-keeps m c (step bd c .ruling) (e .0) (e .1) in
     let t = runs-exist (sim-tidied (q .1)) cs in
-    (t .0, (step bd c .ruling, e .0, rules (tidied (step bd c .board)) cs, e .1, refl, t .1))
+    (t .0, (step bd c .ruling, e .0, rulings (tidied (step bd c .board)) cs, e .1, refl, t .1))
 
-pub fresh-exists : (s : Settings) → s .horizon ≤ bias → (cs : List Call) → (k : Book) × Runs (Rulebook.fresh s) cs (rules (Model.fresh s) cs) k
+pub fresh-exists : (s : Settings) → s .horizon ≤ bias → (cs : List Call) → (k : Book) × Runs (Rulebook.fresh s) cs (rulings (Model.fresh s) cs) k
 fresh-exists s le cs = runs-exist (fresh-sim s le) cs
 
 pub fresh-keeps :
     (s : Settings) → s .horizon ≤ bias → (cs : List Call) (rs : List Ruling) (k : Book) → Runs (Rulebook.fresh s) cs rs k
-    → (rs ≡ rules (Model.fresh s) cs) × Sim (runs (Model.fresh s) cs) k
+    → (rs ≡ rulings (Model.fresh s) cs) × Sim (boardAfter (Model.fresh s) cs) k
 fresh-keeps s le cs rs k p = runs-keep (fresh-sim s le) cs rs k p
 
 pub fresh-runs :
-    (s : Settings) → s .horizon ≤ bias → (cs : List Call) (rs : List Ruling) → rules (Model.fresh s) cs ≡ rs → (P : Book → Type 0)
-    → ((k : Book) → Sim (runs (Model.fresh s) cs) k → P k) → RunsTo s cs rs P
+    (s : Settings) → s .horizon ≤ bias → (cs : List Call) (rs : List Ruling) → rulings (Model.fresh s) cs ≡ rs → (P : Book → Type 0)
+    → ((k : Book) → Sim (boardAfter (Model.fresh s) cs) k → P k) → RunsTo s cs rs P
 fresh-runs s le cs rs e P h =
     let some = fresh-exists s le cs in (
       (some .0, subst (λ (qs : List Ruling). Runs (Rulebook.fresh s) cs qs (some .0)) e (some .1)),

@@ -26,9 +26,9 @@ use Rattle.spec_plain.proofs.Rules.{KeepsAll, keeps-append, kept-append, kept-n
 use Rattle.spec_stn.specs.Table.{bias, Table, Closed, Fits, soonest, addAll, Within}
 use Rattle.spec_stn.proofs.Fits.{soonest-fits, soonest-origin}
 use Rattle.spec_stn.proofs.Add.{Added, addAll-added}
-use Rattle.spec_rulebook.specs.Book.{Book, Point, live, completed, Possible, SomePossible, made, Settles, Refuses}
-use Rattle.theorem_demands.specs.Model.{Board, book, board, refusal, settled}
-use Rattle.theorem_demands.specs.Beside.{StillJobs, LinesIn, JobsIn, Holds, Sim, Mirrors}
+use Rattle.spec_rulebook.specs.Book.{Book, Point, live, completed, Possible, Consistent, made, Settles, Refuses}
+use Rattle.theorem_demands.specs.Model.{Board, book, board, refusedWith, settled}
+use Rattle.theorem_demands.specs.Beside.{StillJobs, LinesOfLive, AllHavePoints, StandsFor, Sim, Mirrors}
 
 pub live-positive : (s : Plain.State) → 0 < Plain.liveCount s
 unfolding Plain.liveCount
@@ -51,7 +51,7 @@ possible-made s next rs qs u = (
       (q .0 .0, (q .0 .1 .0, kept-append t rs (map (named live) qs) .1 (q .0 .1 .1, kept-named live t qs .1 (q .1)))),
 )
 
-module _ {s : Plain.State} {c : Table} {rs : List (RuleOn Point)} (h : Holds s c rs) where
+module _ {s : Plain.State} {c : Table} {rs : List (RuleOn Point)} (h : StandsFor s c rs) where
   pub beside : Sim (board s c) (book s rs)
   beside = record { state = refl; holds = h }
 
@@ -60,12 +60,12 @@ module _ {s : Plain.State} {c : Table} {rs : List (RuleOn Point)} (h : Holds s c
       h .same (soonest c) .0
       (soonest-origin (Plain.liveCount s) c (h .closed) (live-positive s), soonest-fits (Plain.liveCount s) c (h .closed) (live-positive s))
 
-  pub some-holds : SomePossible (book s rs)
-  unfolding SomePossible
+  pub some-holds : Consistent (book s rs)
+  unfolding Consistent
   some-holds = (soonest c, soonest-possible)
 
-  pub refuse-mirrors : (q : Cause) → Mirrors (Refuses (book s rs) q) (refusal (board s c) q)
-  unfolding Refuses refusal
+  pub refuse-mirrors : (q : Cause) → Mirrors (Refuses (book s rs) q) (refusedWith (board s c) q)
+  unfolding Refuses refusedWith
   refuse-mirrors q = record { keeps = λ r k p. (p .0, rw (p .1) beside); exists = (book s rs, (refl, refl)) }
 
 -- ---- accepted or refused
@@ -83,13 +83,13 @@ chosen {Y} {bd} {next} b q y m = record { keeps = keeps; exists = (next, inl (y,
     keeps r k (inr p) = absurd (p .0 y)
 
 pub not-chosen :
-    {Y : Type 0} {s : Plain.State} {c : Table} {rs : List (RuleOn Point)} (next : Book) (q : Cause) → ¬ Y → Holds s c rs
-    → Mirrors (Chooses Y (book s rs) next q) (refusal (board s c) q)
+    {Y : Type 0} {s : Plain.State} {c : Table} {rs : List (RuleOn Point)} (next : Book) (q : Cause) → ¬ Y → StandsFor s c rs
+    → Mirrors (Chooses Y (book s rs) next q) (refusedWith (board s c) q)
 not-chosen {Y} {s} {c} {rs} next q n h = record { keeps = keeps; exists = let e = refuse-mirrors h q .exists in (e .0, inr (n, e .1)) }
   where
     keeps :
         (r : Ruling) (k : Book) → Chooses Y (book s rs) next q r k
-        → (r ≡ refusal (board s c) q .ruling) × Sim (refusal (board s c) q .board) k
+        → (r ≡ refusedWith (board s c) q .ruling) × Sim (refusedWith (board s c) q .board) k
     keeps r k (inl p) = absurd (n (p .0))
     keeps r k (inr p) = refuse-mirrors h q .keeps r k (p .1)
 
@@ -103,21 +103,21 @@ pub record Tries (s next : Plain.State) (c wide : Table) (olds news : List Rule)
       (d : Table) → Closed (Plain.liveCount next) d
       → ((t : Times) → t 0 ≡ pos 0 → Fits (Plain.liveCount next) d t → Fits (Plain.liveCount s) c t × KeepsAll t (olds ++ news))
       → StillJobs d 1 (next .jobs)
-  pub lines : LinesIn (Plain.liveCount next) (next .lines)
-  pub jobs : JobsIn (next .jobs)
+  pub lines : LinesOfLive (Plain.liveCount next) (next .lines)
+  pub jobs : AllHavePoints (next .jobs)
   pub small : next .settings .horizon ≤ bias
 
 unfoldable pub Outcome : Plain.State → Plain.State → List (RuleOn Point) → List Rule → Option Table → Type 0
-Outcome s next rs qs (some d) = Holds next d (rs ++ map (named live) qs)
-Outcome s next rs qs none = ¬ (SomePossible (made next (book s rs) qs))
+Outcome s next rs qs (some d) = StandsFor next d (rs ++ map (named live) qs)
+Outcome s next rs qs none = ¬ (Consistent (made next (book s rs) qs))
 
 module _
     {s next : Plain.State} {c wide : Table} {rs : List (RuleOn Point)} {olds news : List Rule}
-    (h : Holds s c rs) (tries : Tries s next c wide olds news)
+    (h : StandsFor s c rs) (tries : Tries s next c wide olds news)
   where
     -- The table with the rules added has the timetables of `wide` that keep news, and these are those of c that keep olds and news
     pub tried : (o : Option Table) → Added (Plain.liveCount next) wide news o → Outcome s next rs (olds ++ news) o
-    unfolding Outcome Added made SomePossible
+    unfolding Outcome Added made Consistent
     tried (some d) a =
         record {
           closed = a .0;

@@ -16,10 +16,10 @@ use Rattle.spec_stn.specs.Table.{bias, Table, far, earliest, latest, soonest}
 use Rattle.spec_stn.proofs.Fits.{fits-to, far-fits, far-origin, soonest-least, latest-far, latest-most}
 use Rattle.spec_rulebook.specs.Book.{Book, Point, Possible, Least, Greatest, Gap}
 use Rattle.theorem_demands.specs.Model.{Board, book}
-use Rattle.theorem_demands.specs.Beside.{Holds, Sim}
+use Rattle.theorem_demands.specs.Beside.{StandsFor, Sim}
 use Rattle.theorem_demands.proofs.Tries.{live-positive, turned, soonest-possible}
 
-module _ {s : Plain.State} {c : Table} {rs : List (RuleOn Point)} (h : Holds s c rs) where
+module _ {s : Plain.State} {c : Table} {rs : List (RuleOn Point)} (h : StandsFor s c rs) where
   pub far-possible : (i : ℕ) → i < Plain.liveCount s → Possible (book s rs) (far c i)
   far-possible i hi = h .same (far c i) .0 (far-origin c i, far-fits (Plain.liveCount s) c (h .closed) i hi)
 

@@ -65,7 +65,7 @@ shown b (latest x v) = ltb x (Plain.liveCount (b .state)) && eqb (Gaps.latest (b
 shown b (runs p o) = readable p o && isAccepted (factCheck p o)
 shown b (fails p o) = readable p o && not (isAccepted (factCheck p o))
 shown b (same s cs rs) =
-    leb (s .horizon) bias && (sameRulings (Tidy.rules (Model.fresh s) cs) rs && sameBoards b (Tidy.runs (Model.fresh s) cs))
+    leb (s .horizon) bias && (sameRulings (Tidy.rulings (Model.fresh s) cs) rs && sameBoards b (Tidy.boardAfter (Model.fresh s) cs))
 
 unfoldable pub allShown : Board → List Expect → Bool
 allShown b [] = true

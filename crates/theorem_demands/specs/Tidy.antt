@@ -2,7 +2,7 @@
 -- each rule, so ten rules are 59,049 reads of each cell; held in a list each cell is computed once.
 --   tidy n c     the table c of the first n points, its cells held in lists of rows
 --   tidied b     a board with its table so
---   runs, rules  the board after a list of calls, and their rulings, tidied after each call
+--   boardAfter, rulings  the board after a list of calls, and their rulings, tidied after each call
 use mathlib.Core.List.{List, [], _∷_}
 use Prim.Native.Nat.{ℕ}
 use lib.ListN.{getD}
@@ -19,10 +19,10 @@ tidy n c = let rows = build (λ i. build (c i) n) n in λ i j. getD (getD rows i
 unfoldable pub tidied : Board → Board
 tidied b = board (b .state) (tidy (Plain.liveCount (b .state)) (b .table))
 
-unfoldable pub runs : Board → List Call → Board
-runs b [] = b
-runs b (c ∷ cs) = runs (tidied (step b c .board)) cs
+unfoldable pub boardAfter : Board → List Call → Board
+boardAfter b [] = b
+boardAfter b (c ∷ cs) = boardAfter (tidied (step b c .board)) cs
 
-unfoldable pub rules : Board → List Call → List Ruling
-rules b [] = []
-rules b (c ∷ cs) = let a = step b c in a .ruling ∷ rules (tidied (a .board)) cs
+unfoldable pub rulings : Board → List Call → List Ruling
+rulings b [] = []
+rulings b (c ∷ cs) = let a = step b c in a .ruling ∷ rulings (tidied (a .board)) cs

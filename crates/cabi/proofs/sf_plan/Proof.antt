@@ -13,7 +13,7 @@ returns c = let told = c .before .before .before in
     let entry = planned .before .before .before .before .before .before in
     let answer = planned .plan .ensures in
     let value = valued .value .ensures ∙ ap valueOf (answer .0) in
-    (c .number .ensures ∙ ap numberOf (answer .0), (answer .1, told .put-cause .ensures ∙ ap (set (entry .args .cause .now) 0) value))
+    (c .number .ensures ∙ ap numberOf (answer .0), (answer .1, told .write-cause .ensures ∙ ap (set (entry .args .cause .now) 0) value))
 
 pub sf-plan-spec : {M : Type 1} → statement M
 sf-plan-spec =

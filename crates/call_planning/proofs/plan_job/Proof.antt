@@ -11,11 +11,11 @@ use borrow.Author.Tests.{not-true, not-false}
 use Rattle.base_rulings.specs.declared.Ruling.the-variants.{Accepted}
 use Rattle.spec_plain.specs.declared.Settings.{Settings}
 use Rattle.spec_plain.specs.declared.Job.{Job}
-use Rattle.spec_plain.specs.declared.Put.{Put}
+use Rattle.spec_plain.specs.declared.Allocation.{Allocation}
 use Rattle.spec_plain.specs.Plain.{withSettings, newJob, total, jobFrom, drafted}
-use Rattle.part_putwords.specs.Puts.{putsIn}
+use Rattle.part_allocations.specs.Allocations.{allocationsIn}
 use Rattle.part_lines.specs.declared.Steps.{Steps}
-use Rattle.part_lines.specs.Held.{jobsOf, jobsFrom, stepsOf, heldOffer}
+use Rattle.part_lines.specs.ArrayLists.{jobsOf, jobsFrom, stepsOf, heldOffer}
 use Rattle.part_offered.specs.Sized.{SizedOffer}
 use Rattle.part_boardwords.specs.Board.{stateOf}
 use Rattle.part_boardwords.specs.Layout.{clockAt, countAt, boardSize}
@@ -26,19 +26,19 @@ use Rattle.part_drafts.specs.declared.drafting.Drafted.{Drafted}
 use Rattle.part_drafts.specs.DraftedAs.{DraftedAs}
 use Rattle.call_board.proofs.InWords.{is-sound, points-asked, jobs-sized, marks-kept, fronted-kept, few-after, unanswered}
 use Rattle.call_planning.proofs.Planned.{stopped}
-use Rattle.call_planning.proofs.PlanWords.{sound-lined, drafted-on, Planning, plan-asks, plan-17, plan-puts, plan-joins}
+use Rattle.call_planning.proofs.PlanWords.{sound-lined, drafted-on, Planning, plan-asks, plan-17, plan-allocations, plan-joins}
 use Rattle.call_planning.proofs.plan_job.Statement.{statement}
 use Rattle.call_planning.proofs.plan_job.Tie as tie
 
 -- the job that is added is the offer's
 job-of :
-    (batch : ℕ) (steps : Steps) (ps : List Put) → steps .count ≡ length (stepsOf steps)
+    (batch : ℕ) (steps : Steps) (ps : List Allocation) → steps .count ≡ length (stepsOf steps)
     → newJob (steps .count + 1) batch ≡ jobFrom (heldOffer batch steps ps)
 job-of batch steps ps e = ap (λ (m : ℕ). newJob m batch) (add-one _ ∙ ap suc e)
 
 -- the draft went on
 planning :
-    (w : List ℕ) (batch : ℕ) (steps : Steps) (ps : List Put) (r : Drafted) (s : Settings) {n : ℕ}
+    (w : List ℕ) (batch : ℕ) (steps : Steps) (ps : List Allocation) (r : Drafted) (s : Settings) {n : ℕ}
     → length w ≡ boardSize → sound (boardIn w) ≡ true
     → steps .count ≡ length (stepsOf steps) → SizedOffer (heldOffer batch steps ps) → s ≡ settingsRead (wordIn w)
     → DraftedAs r (drafted (withSettings (stateOf (boardIn w)) s) (heldOffer batch steps ps))
@@ -85,7 +85,7 @@ returns c =
     let A = entry .args in
     let P = entry .pre in
     let W = A .w .now in
-    let o = heldOffer (A .batch) (A .steps) (putsIn (A .puts .now) (A .many)) in
+    let o = heldOffer (A .batch) (A .steps) (allocationsIn (A .allocations .now) (A .many)) in
     let came = drafted-on W (P .1 .0) o _ (read .settings-in .result) (read .settings-in .ensures) (drafted .draft .ensures) in
     unanswered W _ _ _ (stopped (boardIn W) o _ came _ (c .before .ruling .given .1))
 
@@ -99,8 +99,8 @@ try-grown-requires c κs =
     let A = entry .args in
     let P = entry .pre in
     let W = A .w .now in
-    let puts = putsIn (A .puts .now) (A .many) in
-    let p = planning W (A .batch) (A .steps) puts _ (read .settings-in .result) (P .0) (P .1 .0) (P .1 .1) (P .1 .4) (read .settings-in .ensures)
+    let allocations = allocationsIn (A .allocations .now) (A .many) in
+    let p = planning W (A .batch) (A .steps) allocations _ (read .settings-in .result) (P .0) (P .1 .0) (P .1 .1) (P .1 .4) (read .settings-in .ensures)
     (drafted .draft .ensures) (told .enum-told .given .1) (points .points-in .ensures) in
     let a = plan-asks p in
     ((length-lent W (P .0), a .0 .0, a .0 .1, a .0 .2, a .0 .3), a .1)
@@ -116,8 +116,8 @@ returns-2 c =
     let A = entry .args in
     let P = entry .pre in
     let W = A .w .now in
-    let puts = putsIn (A .puts .now) (A .many) in
-    let p = planning W (A .batch) (A .steps) puts _ (read .settings-in .result) (P .0) (P .1 .0) (P .1 .1) (P .1 .4) (read .settings-in .ensures)
+    let allocations = allocationsIn (A .allocations .now) (A .many) in
+    let p = planning W (A .batch) (A .steps) allocations _ (read .settings-in .result) (P .0) (P .1 .0) (P .1 .1) (P .1 .4) (read .settings-in .ensures)
     (drafted .draft .ensures) (told .enum-told .given .1) (points .points-in .ensures) in
     let no = not-true _ (c .if1 .taken) in
     plan-17 p _ _ (tried .try-grown .ensures .0) no (tried .try-grown .ensures .1 no)
@@ -134,8 +134,8 @@ add-job-requires c κs =
     let A = entry .args in
     let P = entry .pre in
     let W = A .w .now in
-    let puts = putsIn (A .puts .now) (A .many) in
-    let p = planning W (A .batch) (A .steps) puts _ (read .settings-in .result) (P .0) (P .1 .0) (P .1 .1) (P .1 .4) (read .settings-in .ensures)
+    let allocations = allocationsIn (A .allocations .now) (A .many) in
+    let p = planning W (A .batch) (A .steps) allocations _ (read .settings-in .result) (P .0) (P .1 .0) (P .1 .1) (P .1 .4) (read .settings-in .ensures)
     (drafted .draft .ensures) (told .enum-told .given .1) (points .points-in .ensures) in
     let t = tried .try-grown .last .0 in
     let count = with-word W (P .0) t countAt (omega arith) in
@@ -179,15 +179,15 @@ insert-all-requires c κs =
     let A = entry .args in
     let P = entry .pre in
     let W = A .w .now in
-    let puts = putsIn (A .puts .now) (A .many) in
-    let p = planning W (A .batch) (A .steps) puts _ (read .settings-in .result) (P .0) (P .1 .0) (P .1 .1) (P .1 .4) (read .settings-in .ensures)
+    let allocations = allocationsIn (A .allocations .now) (A .many) in
+    let p = planning W (A .batch) (A .steps) allocations _ (read .settings-in .result) (P .0) (P .1 .0) (P .1 .1) (P .1 .4) (read .settings-in .ensures)
     (drafted .draft .ensures) (told .enum-told .given .1) (points .points-in .ensures) in
     let t = tried .try-grown .last .0 in
     let x = added .add-job .last .0 in
     let ex = fronted-kept W (P .1 .0) (P .0) t (λ (js : List Job). js ++ (newJob (A .steps .count + 1) (A .batch) ∷ [])) x (added .add-job .ensures) in
-    let same = job-of (A .batch) (A .steps) puts (P .1 .1) in
+    let same = job-of (A .batch) (A .steps) allocations (P .1 .1) in
     let size = written .w .given in
-    let q = plan-puts p _ _ (tried .try-grown .ensures .0) (not-false _ (tested .if1 .left)) (omega (arith, P .0, size)) x _ (rw same at ex)
+    let q = plan-allocations p _ _ (tried .try-grown .ensures .0) (not-false _ (tested .if1 .left)) (omega (arith, P .0, size)) x _ (rw same at ex)
     (tidied .tidy-lines .ensures) in
     let lines = tidied .before .before .before .w2 .given in
     ((omega (arith, P .0, size, lines, c .before .before .w3 .given), q .0, P .1 .3, omega (arith, plan-asks p .0 .1)), q .1)
@@ -207,13 +207,13 @@ returns-3 c =
     let A = entry .args in
     let P = entry .pre in
     let W = A .w .now in
-    let puts = putsIn (A .puts .now) (A .many) in
-    let p = planning W (A .batch) (A .steps) puts _ (read .settings-in .result) (P .0) (P .1 .0) (P .1 .1) (P .1 .4) (read .settings-in .ensures)
+    let allocations = allocationsIn (A .allocations .now) (A .many) in
+    let p = planning W (A .batch) (A .steps) allocations _ (read .settings-in .result) (P .0) (P .1 .0) (P .1 .1) (P .1 .4) (read .settings-in .ensures)
     (drafted .draft .ensures) (told .enum-told .given .1) (points .points-in .ensures) in
     let t = tried .try-grown .last .0 in
     let x = added .add-job .last .0 in
     let ex = fronted-kept W (P .1 .0) (P .0) t (λ (js : List Job). js ++ (newJob (A .steps .count + 1) (A .batch) ∷ [])) x (added .add-job .ensures) in
-    let same = job-of (A .batch) (A .steps) puts (P .1 .1) in
+    let same = job-of (A .batch) (A .steps) allocations (P .1 .1) in
     let size = written .w .given in
     plan-joins p _ _ (tried .try-grown .ensures .0) (not-false _ (tested .if1 .left)) (omega (arith, P .0, size)) x _ (rw same at ex)
     (tidied .tidy-lines .ensures) _ (c .before .before .insert-all .ensures)

@@ -78,8 +78,8 @@ read-durations-requires c κs =
     let read = sym (format .read-offer .ensures) ∙ told .enum-told .given .1 in
     (P .1 .1, P .1 .2, read)
 
-read-puts-requires : tie.Need-read-puts-requires
-read-puts-requires c κs =
+read-allocations-requires : tie.Need-read-allocations-requires
+read-allocations-requires c κs =
     let told = c .before .before .before .before .before .before .before .before in
     let format = told .before .before in
     let entry = format .before .before .before .before in
@@ -110,7 +110,7 @@ plan-job-requires c κs =
     let o = offerOf (A .plant .now) (A .offer .now) in
     let sized = offer-sized (A .plant .now) (A .offer .now) (P .1 .1) read in
     let es = c .before .before .before .before .before .before .read-durations .ensures in
-    let ep = c .before .before .before .before .read-puts .ensures in
+    let ep = c .before .before .before .before .read-allocations .ensures in
     let held = held-offer o sized _ es _ _ (c .before .u32-at .ensures) ep in
     (P .0, (P .1 .0, held-list o sized _ es, held-count o sized _ es .1, held-read o sized _ _ (search needs) ep, rw held sized))
 
@@ -133,7 +133,7 @@ returns-4 c =
     let sized = offer-sized (A .plant .now) (A .offer .now) (P .1 .1) read in
     let batch = c .before .before .before .before in
     let placed = batch .before .before .before in
-    let held = held-offer o sized _ (durations .read-durations .ensures) _ _ (batch .u32-at .ensures) (placed .read-puts .ensures) in
+    let held = held-offer o sized _ (durations .read-durations .ensures) _ _ (batch .u32-at .ensures) (placed .read-allocations .ensures) in
     let is = ap (λ (z : Offer). decided b (drafted (stateOf b) z)) held ∙ chain-good b (A .plant .now) (A .offer .now) (P .1 .1) read consistent chain in
     let planned = c .before .before .plan-job .ensures in
     (planned .0 ∙ ap (λ (r : Ruled). r .ruling) is, planned .1 ∙ ap (wordsAfter (A .w .now)) is)
@@ -144,4 +144,4 @@ plan-offer-spec =
     (tie.spec
     (λ c κs. search needs) (λ c. search needs) returns (λ c. search needs) check-consistency-requires (λ c. search needs) returns-2
     (λ c. search needs) check-chain-requires (λ c. search needs) returns-3 (λ c. search needs) read-durations-requires (λ c. search needs)
-    read-puts-requires u32-at-requires (λ c. search needs) plan-job-requires (λ c. search needs) returns-4)
+    read-allocations-requires u32-at-requires (λ c. search needs) plan-job-requires (λ c. search needs) returns-4)

@@ -2,7 +2,7 @@
 -- it refuses. The borrow of the list is opened once, before the loop, and closed once, after it. Between the two the row of elements is the
 -- function's own: after k turns it is the list passed with the first k rows laid over its front, and the cursor stands at row k. All that the walk
 -- knows of the functions that it calls is that each meets its contract. Assumes nothing.
---   leaves  what runs after the loop;  tests: the test of a `while`
+--   leaves  what runs nextCursor the loop;  tests: the test of a `while`
 --   goes-.. the caller has what each callee asks;  ..-gives: what it gives back;  ..-says: of what it ensures, the clause alone
 --   exits   what the function gives back when it returns
 --   Inv     the loop's invariant;  walk: the walk itself, statement by statement, each with what is held before it
@@ -66,7 +66,7 @@ use Rattle.part_boardwords.specs.Words.{wordIn, cellsRead, boardIn}
 use Rattle.call_report.specs.declared.Row.{Row}
 use Rattle.call_report.specs.declared.Asked.{Asked}
 use Rattle.call_report.specs.declared.Cursor.{Cursor}
-use Rattle.call_report.specs.Rows.{rowOf, rowsOf, noRow, laid, asked, after, cursor}
+use Rattle.call_report.specs.Rows.{rowOf, rowsOf, noRow, laid, asked, nextCursor, cursor}
 use Rattle.call_report.proofs.Row as R
 use Rattle.call_report.proofs.Row.Laws as R′
 use Rattle.call_report.proofs.Asked as Q
@@ -267,8 +267,8 @@ module _ {M : Type 1} (𝓤 : URA M) (H : Heap 𝓤) (A : Atoms 𝓤) (W : Given
   row-says : (k : ℕ) (r : Row) → ent 𝓤 (row-ensures k r) (fact 𝓤 (r ≡ made-row k))
   row-says k r = exE 𝓤 _ (λ ws. snd∗ 𝓤 (sem 𝓤 H A (lasts row-at.ended (κ, tt) (w, (at k, (k, tt))) ws)) (fact 𝓤 (r ≡ made-row k)))
 
-  next-says : (k : ℕ) (r : Cursor) → ent 𝓤 (next-ensures k r) (fact 𝓤 (r ≡ after (wordIn (w .now)) (at k)))
-  next-says k r = exE 𝓤 _ (λ ws. snd∗ 𝓤 (sem 𝓤 H A (lasts next.ended (κ, tt) (w, (at k, tt)) ws)) (fact 𝓤 (r ≡ after (wordIn (w .now)) (at k))))
+  next-says : (k : ℕ) (r : Cursor) → ent 𝓤 (next-ensures k r) (fact 𝓤 (r ≡ nextCursor (wordIn (w .now)) (at k)))
+  next-says k r = exE 𝓤 _ (λ ws. snd∗ 𝓤 (sem 𝓤 H A (lasts next.ended (κ, tt) (w, (at k, tt)) ws)) (fact 𝓤 (r ≡ nextCursor (wordIn (w .now)) (at k))))
 
   -- what is known of a row that is stored
   stored : (k : ℕ) → k < n → Whole (w .now) (length ys)
@@ -287,7 +287,7 @@ module _ {M : Type 1} (𝓤 : URA M) (H : Heap 𝓤) (A : Atoms 𝓤) (W : Given
   unfolding cursor
   starts = refl
 
-  moves : (k : ℕ) → after (wordIn (w .now)) (at k) ≡ at (k + 1)
+  moves : (k : ℕ) → nextCursor (wordIn (w .now)) (at k) ≡ at (k + 1)
   unfolding cursor
   moves k = ap (cursor (wordIn (w .now))) (sym (add-one k))
 
@@ -444,8 +444,8 @@ module _ {M : Type 1} (𝓤 : URA M) (H : Heap 𝓤) (A : Atoms 𝓤) (W : Given
           calls-at ! fm (Next 𝓤 H A mem run) known-next (to-next k) (and-then ! (load ! (from ! (stop !)) (look ! 12 refl))
           (and-then ! (load ! (from ! (stop !)) (look ! 4 refl)) (no-more !))) (λ y′.
           use1 W (next-gives k y′) (id⊢ 𝓤 _) $ await ! tt $ pick ! (λ c.
-          split ! $ move ! (1 ∷ []) $ use1 W (raw (fact 𝓤 (c ≡ after (wordIn (w .now)) (at k)))) (next-says k c) $
-          heard ! (c ≡ after (wordIn (w .now)) (at k)) (λ e‴. split ! $ move ! (1 ∷ []) $
+          split ! $ move ! (1 ∷ []) $ use1 W (raw (fact 𝓤 (c ≡ nextCursor (wordIn (w .now)) (at k)))) (next-says k c) $
+          heard ! (c ≡ nextCursor (wordIn (w .now)) (at k)) (λ e‴. split ! $ move ! (1 ∷ []) $
           rewrite ! 0 (λ (h : Cursor). ‵ (C.the-row .own h (y′ ∷ []))) (e‴ ∙ moves k) refl $
           peeks ! C.the-row (Is C.the-row) (shows 𝓤 H A C.the-row) (at (k + 1)) (y′ ∷ []) (λ moved.
           land ! (from ! (stop !)) (store ! 5 refl (LL.lawful C.the-type C′.the-laws 𝓤 H A W .typed (at (k + 1)) _ moved .0)) $

@@ -10,7 +10,7 @@ use Rattle.part_lines.proofs.Lists.{length-mapped}
 use Rattle.part_gaps.specs.Cells.{tableOf}
 use Rattle.part_boardwords.specs.Words.{wordIn, cellsRead, boardIn}
 use Rattle.call_report.specs.declared.Cursor.{Cursor}
-use Rattle.call_report.specs.Rows.{rowOf, rowsOf, laid, after, cursor}
+use Rattle.call_report.specs.Rows.{rowOf, rowsOf, laid, nextCursor, cursor}
 use Rattle.call_report.proofs.Laid.{laid-none, laid-turn}
 use Rattle.call_report.proofs.Answers.{rows-few}
 use Rattle.call_report.proofs.RowByRow.{cursor-row, cursor-fits}
@@ -73,7 +73,7 @@ loop-again c =
     let size : length (entry .args .rows) ≡ mostPoints = search (needs, length-mapped) in (
       omega arith,
       laid-turn rows (entry .args .rows) (L .next-rows) (L .k) _ (L .inv .1) row less (omega (arith, size, cursor-fits words (entry .pre .1) (L .k) less .0)),
-      c .next .ensures ∙ ap (after words) at ∙ ap (cursor words) (sym (add-one (L .k))),
+      c .next .ensures ∙ ap (nextCursor words) at ∙ ap (cursor words) (sym (add-one (L .k))),
       simp length-set (L .inv .3),
     )
 

@@ -2,7 +2,7 @@
 use native.Mathlib.Omega.{arith}
 use borrow.Author.Needs.{needs}
 use Rattle.part_boardwords.specs.Words.{wordIn}
-use Rattle.log_chart.proofs.Laws.{on-table}
+use Rattle.log_chart.proofs.ChartLaws.{on-table}
 use Rattle.log_chart.proofs.put_shown.Statement.{statement}
 use Rattle.log_chart.proofs.put_shown.Tie as tie
 

@@ -4,30 +4,30 @@ use mathlib.Core.Path.{_≡_}
 use mathlib.Core.List.{_++_}
 use native.Mathlib.Omega.{arith}
 use lib.ListN.{length}
-use Rattle.spec_rulebook.specs.Reading.{putsOfStep}
-use Rattle.part_putwords.specs.Puts.{putsIn}
-use Rattle.part_offered.proofs.Laws.{step-none, step-more, step-done}
+use Rattle.spec_rulebook.specs.Reading.{allocationsOfStep}
+use Rattle.part_allocations.specs.Allocations.{allocationsIn}
+use Rattle.part_offered.proofs.StepLaws.{step-none, step-more, step-done}
 use Rattle.part_offered.proofs.push_step.Statement.{statement}
 use Rattle.part_offered.proofs.push_step.Tie as tie
 
 abbrev Inv-loop : tie.InvT-loop
-Inv-loop plant offer k start at n puts₀ many j₀ puts j =
-    (j ≤ n) × (putsIn puts (many + j) ≡ putsIn puts₀ many ++ putsOfStep plant offer k 0 j) × (length puts ≡ length puts₀)
+Inv-loop plant offer k start at n puts₀ many j₀ allocations j =
+    (j ≤ n) × (allocationsIn allocations (many + j) ≡ allocationsIn puts₀ many ++ allocationsOfStep plant offer k 0 j) × (length allocations ≡ length puts₀)
 
 abbrev μ-loop : tie.MeasureT-loop
-μ-loop plant offer k start at n puts₀ many j₀ puts j = n - j
+μ-loop plant offer k start at n puts₀ many j₀ allocations j = n - j
 
 loop-holds : tie.Need-loop-holds Inv-loop μ-loop
 loop-holds c = (omega arith, step-none _ _ _ _ _, omega arith)
 
-put-at-requires : tie.Need-put-at-requires Inv-loop μ-loop
-put-at-requires c κs = (c .before .before .before .before .before .before .pre .0, (omega arith, omega arith))
+allocation-at-requires : tie.Need-allocation-at-requires Inv-loop μ-loop
+allocation-at-requires c κs = (c .before .before .before .before .before .before .pre .0, (omega arith, omega arith))
 
 loop-again : tie.Need-loop-again Inv-loop μ-loop
 loop-again c =
     let L = c .before .before .before .before .before .before .loop in (
       omega arith,
-      step-more _ _ _ _ _ _ _ (L .inv .1) _ _ (c .before .before .before .put-at .ensures) (c .before .before .push-put .ensures),
+      step-more _ _ _ _ _ _ _ (L .inv .1) _ _ (c .before .before .before .allocation-at .ensures) (c .before .before .push-allocation .ensures),
       omega arith,
     )
 
@@ -38,5 +38,5 @@ pub push-step-spec : {M : Type 1} → statement M
 push-step-spec =
     tie.close
     (tie.spec
-    Inv-loop μ-loop loop-holds (λ c. omega arith) put-at-requires (λ c κs. omega arith) (λ c. omega arith) (λ c. omega arith) loop-again
+    Inv-loop μ-loop loop-holds (λ c. omega arith) allocation-at-requires (λ c κs. omega arith) (λ c. omega arith) (λ c. omega arith) loop-again
     (λ c. omega arith) returns)

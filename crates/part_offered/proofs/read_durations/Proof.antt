@@ -5,11 +5,11 @@ use lib.ListN.{replicate}
 use Rattle.spec_plain.specs.Limits.{mostSteps}
 use Rattle.spec_plain.specs.declared.Step.{Step}
 use Rattle.read_offer.proofs.Steps.{first-start}
-use Rattle.part_offered.proofs.Laws.{steps-done, action-within, action-known, record-is, step-within, next-at, steps-none, steps-next}
+use Rattle.part_offered.proofs.StepLaws.{steps-done, action-within, action-known, record-is, step-within, next-at, steps-none, steps-next}
 use Rattle.part_lines.specs.Padded.{padded}
 use Rattle.read_offer.proofs.Steps.{read-of}
 use Rattle.spec_rulebook.specs.Reading.{stepsFrom}
-use Rattle.part_lines.specs.Held.{noStep}
+use Rattle.part_lines.specs.ArrayLists.{noStep}
 use Prim.Native.Nat.{_≤_, _-_}
 use native.Mathlib.Omega.{arith}
 use borrow.Author.Needs.{needs}

@@ -1,7 +1,7 @@
 use Rattle.part_settling.proofs.Adding.{looked-up, Adding, begins, ends, usable-here, stops, agree, goes-on}
 use lib.ListN.{drop, length}
 use borrow.Author.Tests.{not-true, not-false}
-use Rattle.part_lines.specs.Held.{rulesOf, noRule, mostRules}
+use Rattle.part_lines.specs.ArrayLists.{rulesOf, noRule, mostRules}
 use Rattle.part_lines.proofs.Lists.{held-next, held-over, length-mapped}
 use Prim.Native.Nat.{_≤_, _-_}
 use mathlib.Core.Path.{_≡_, sym, _∙_}
@@ -19,8 +19,8 @@ abbrev μ-loop : tie.MeasureT-loop
 loop-holds : tie.Need-loop-holds Inv-loop μ-loop
 loop-holds c = (omega arith, begins _ _ _ (c .before .pre .0 .0) (c .before .pre .0 .2) (c .before .pre .1 .1))
 
-agrees-requires : tie.Need-agrees-requires Inv-loop μ-loop
-agrees-requires c κs = let size : length (c .before .before .before .before .before .args .t3 .rules) ≡ mostRules = search (needs, length-mapped) in
+is-consistent-requires : tie.Need-is-consistent-requires Inv-loop μ-loop
+is-consistent-requires c κs = let size : length (c .before .before .before .before .before .args .t3 .rules) ≡ mostRules = search (needs, length-mapped) in
     let next = held-next (c .before .before .before .before .before .args .t3 .count) (c .before .before .before .before .before .args .t3 .rules) (c .before .before .before .loop .k) noRule (c .before .before .loop-test .taken) (omega (arith, size)) in
     let look = looked-up (c .before .before .before .loop .inv .1) _ _ next (c .before .before .before .before .before .pre .0 .1) in
     ((c .before .before .before .loop .inv .1 .cells, look .0), look .1)
@@ -29,19 +29,19 @@ returns : tie.Need-returns Inv-loop μ-loop
 returns c = let size : length (c .before .before .before .before .before .before .before .args .t3 .rules) ≡ mostRules = search (needs, length-mapped) in
     let next = held-next (c .before .before .before .before .before .before .before .args .t3 .count) (c .before .before .before .before .before .before .before .args .t3 .rules) (c .before .before .before .before .before .loop .k) noRule (c .before .before .before .before .loop-test .taken) (omega (arith, size)) in
     let s = c .before .before .before .before .before .loop .inv .1 in
-    (stops s _ _ next _ (sym (c .before .agrees .ensures) ∙ not-true _ (c .if1 .taken)), s .rest)
+    (stops s _ _ next _ (sym (c .before .is-consistent .ensures) ∙ not-true _ (c .if1 .taken)), s .rest)
 
 add-new-requires : tie.Need-add-new-requires Inv-loop μ-loop
 add-new-requires c κs = let size : length (c .before .before .before .before .before .before .before .before .args .t3 .rules) ≡ mostRules = search (needs, length-mapped) in
     let next = held-next (c .before .before .before .before .before .before .before .before .args .t3 .count) (c .before .before .before .before .before .before .before .before .args .t3 .rules) (c .before .before .before .before .before .before .loop .k) noRule (c .before .before .before .before .before .loop-test .taken) (omega (arith, size)) in
     let s = c .before .before .before .before .before .before .loop .inv .1 in
-    let agreed = agree s _ _ next (sym (c .before .before .agrees .ensures) ∙ not-false _ (c .before .if1 .left)) in
+    let agreed = agree s _ _ next (sym (c .before .before .is-consistent .ensures) ∙ not-false _ (c .before .if1 .left)) in
     ((s .cells, c .before .before .before .before .before .before .before .before .pre .0 .1, usable-here s _ _ next), (s .closed, agreed))
 
 loop-again : tie.Need-loop-again Inv-loop μ-loop
 loop-again c = let size : length (c .before .before .before .before .before .before .before .before .before .before .before .args .t3 .rules) ≡ mostRules = search (needs, length-mapped) in
     let next = held-next (c .before .before .before .before .before .before .before .before .before .before .before .args .t3 .count) (c .before .before .before .before .before .before .before .before .before .before .before .args .t3 .rules) (c .before .before .before .before .before .before .before .before .before .loop .k) noRule (c .before .before .before .before .before .before .before .before .loop-test .taken) (omega (arith, size)) in
-    let agreed = sym (c .before .before .before .before .before .agrees .ensures) ∙ not-false _ (c .before .before .before .before .if1 .left) in
+    let agreed = sym (c .before .before .before .before .before .is-consistent .ensures) ∙ not-false _ (c .before .before .before .before .if1 .left) in
     (omega arith, goes-on (c .before .before .before .before .before .before .before .before .before .loop .inv .1) _ _ next (c .before .before .before .before .before .before .before .before .before .before .before .pre .0 .1) _ agreed (c .before .before .add-new .ensures))
 
 returns-2 : tie.Need-returns-2 Inv-loop μ-loop
@@ -53,5 +53,5 @@ pub add-all-spec : {M : Type 1} → statement M
 add-all-spec =
     tie.close
     (tie.spec
-    Inv-loop μ-loop loop-holds (λ c. omega arith) (λ c. omega arith) agrees-requires (λ c. omega arith) returns add-new-requires
+    Inv-loop μ-loop loop-holds (λ c. omega arith) (λ c. omega arith) is-consistent-requires (λ c. omega arith) returns add-new-requires
     (λ c. omega arith) (λ c. omega arith) loop-again (λ c. omega arith) returns-2)

@@ -8,8 +8,8 @@ use Rattle.part_settling.proofs.Adding.{usable-wide}
 use Rattle.part_settling.proofs.add_new.Statement.{statement}
 use Rattle.part_settling.proofs.add_new.Tie as tie
 
-implies-requires : tie.Need-implies-requires
-implies-requires c κs =
+entails-requires : tie.Need-entails-requires
+entails-requires c κs =
     let p = c .before .before .pre in
     let u = p .0 .2 in
     ((p .0 .0, usable-wide _ side _ (p .0 .1) u), p .1 .0 .bounded _ _ (u .late-live) (u .early-live))
@@ -18,7 +18,7 @@ returns : tie.Need-returns
 returns c =
     let p = c .before .before .before .before .pre in
     let u = p .0 .2 in
-    sym (added-known (c .before .before .before .before .args .t .now) _ _ (p .0 .0) (p .0 .1) (p .1 .0) (u .early-live) (u .late-live) (leb-true _ _ (sym (c .before .implies .ensures) ∙ c .if1 .taken)))
+    sym (added-known (c .before .before .before .before .args .t .now) _ _ (p .0 .0) (p .0 .1) (p .1 .0) (u .early-live) (u .late-live) (leb-true _ _ (sym (c .before .entails .ensures) ∙ c .if1 .taken)))
 
 add-requires : tie.Need-add-requires
 add-requires c κs =
@@ -27,4 +27,4 @@ add-requires c κs =
     (p .0, (p .1 .0, agrees-whole _ _ _ (p .1 .0) (u .early-live) (u .late-live) (p .1 .1)))
 
 pub add-new-spec : {M : Type 1} → statement M
-add-new-spec = tie.close (tie.spec implies-requires (λ c. search needs) returns add-requires (λ c. search needs) (λ c. search needs))
+add-new-spec = tie.close (tie.spec entails-requires (λ c. search needs) returns add-requires (λ c. search needs) (λ c. search needs))

@@ -8,7 +8,7 @@ use borrow.Author.Needs.{needs}
 use Rattle.spec_plain.specs.Limits.{side}
 use Rattle.part_gaps.proofs.Grown.{grown-length, grown-past}
 use Rattle.part_gaps.proofs.GapTable.{grown-closed}
-use Rattle.part_lines.specs.Held.{rulesOf}
+use Rattle.part_lines.specs.ArrayLists.{rulesOf}
 use Rattle.part_settling.specs.Settled.{addedAll}
 use Rattle.part_settling.proofs.Adding.{live-put}
 use Rattle.part_settling.proofs.grow_or_put.Statement.{statement}

@@ -3,7 +3,7 @@ use Prim.Native.Nat.{_+_}
 use mathlib.Core.Path.{_≡_, sym, _∙_, ap₂}
 use native.Mathlib.Omega.{arith}
 use borrow.Author.Needs.{needs}
-use Rattle.part_lines.specs.Held.{rulesOf}
+use Rattle.part_lines.specs.ArrayLists.{rulesOf}
 use Rattle.part_gaps.proofs.Grown.{grown-none}
 use Rattle.part_settling.specs.Settled.{addedAll}
 use Rattle.part_settling.proofs.try_rules.Statement.{statement}

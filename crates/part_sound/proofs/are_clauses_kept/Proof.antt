@@ -8,7 +8,7 @@ use Rattle.spec_plain.specs.Limits.{mostJobs, mostPoints}
 use Rattle.spec_plain.specs.declared.Settings.{Settings}
 use Rattle.spec_plain.specs.Plain.{total}
 use Rattle.part_lines.specs.declared.Jobs.{Jobs}
-use Rattle.part_lines.specs.Held.{jobsOf}
+use Rattle.part_lines.specs.ArrayLists.{jobsOf}
 use Rattle.part_boardwords.specs.Words.{wordIn, heldJobs}
 use Rattle.part_sound.specs.Sound.{allOf, sizedNumbers, sizedJob, sizedJobs, clausesKept}
 use Rattle.part_sound.proofs.Flags.{fails, passes, holds, breaks}

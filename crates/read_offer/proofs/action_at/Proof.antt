@@ -1,5 +1,5 @@
 -- `action_at` meets its contract, mask by mask.
-use Rattle.read_offer.specs.Held.{heldAction}
+use Rattle.read_offer.specs.ChainMasks.{heldAction}
 use Prim.Native.Nat.{_-_}
 use mathlib.Core.Path.{refl}
 use borrow.Author.Needs.{needs}

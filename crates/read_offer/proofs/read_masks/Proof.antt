@@ -3,7 +3,7 @@
 use Rattle.base_words.specs.Word.{word}
 use Rattle.read_facts.specs.declared.Action.{Action}
 use Rattle.read_offer.specs.Offer.{stepStart, actionOf}
-use Rattle.read_offer.specs.Held.{heldAction}
+use Rattle.read_offer.specs.ChainMasks.{heldAction}
 use Rattle.read_offer.proofs.Steps.{read-of, first-start}
 use Rattle.read_offer.proofs.Chain.{action-is, known-in, here, ends-within, next-at}
 use Rattle.read_offer.proofs.Held.{held-more, held-chain}

@@ -1,7 +1,7 @@
 -- `read_steps` meets its contract. The loop's invariant: `at` is where the next step starts, in the offer, and the steps before it are accepted.
 use Rattle.base_rulings.specs.declared.Ruling.the-variants.{Accepted}
 use Rattle.base_rulings.specs.Order.{firstRefusal, refusalOf}
-use Rattle.base_rulings.proofs.Laws.{first-none, reading-stops, reading-goes-on}
+use Rattle.base_rulings.proofs.RulingLaws.{first-none, reading-stops, reading-goes-on}
 use Rattle.read_offer.specs.Offer.{stepStart, stepRuling}
 use Rattle.read_offer.proofs.Steps.{first-start, ruling-is, next-start, steps-refused, steps-end, left-over}
 use Prim.Native.Nat.{_≤_, _-_}

@@ -1,5 +1,5 @@
 -- `is_bad_head` meets its contract: the count, then the spare bytes. Where three tests pass the last one decides (`last-of-or`).
-use Rattle.base_rulings.proofs.Laws.{last-of-or}
+use Rattle.base_rulings.proofs.RulingLaws.{last-of-or}
 use borrow.Author.Tests.{lt-ltb, le-ltb, eq-eqb, ne-eqb}
 use Rattle.read_plant.specs.Plant.{badHead}
 use Prim.Native.Nat.{_-_}

@@ -1,5 +1,5 @@
 -- `is_marked` meets its contract, byte by byte. Where three bytes are right the last one decides (`last-of-and`).
-use Rattle.base_rulings.proofs.Laws.{last-of-and}
+use Rattle.base_rulings.proofs.RulingLaws.{last-of-and}
 use borrow.Author.Tests.{eq-eqb, ne-eqb}
 use Rattle.read_plant.specs.Plant.{isMark}
 use Prim.Native.Nat.{_-_}

@@ -1,7 +1,7 @@
 -- `read_records` meets its contract. The loop's invariant: `at` is where the next record has to start, and the records before it are accepted.
 use Rattle.base_rulings.specs.declared.Ruling.the-variants.{Accepted}
 use Rattle.base_rulings.specs.Order.{firstRefusal, refusalOf}
-use Rattle.base_rulings.proofs.Laws.{first-none, first-ends, reading-stops, reading-goes-on}
+use Rattle.base_rulings.proofs.RulingLaws.{first-none, first-ends, reading-stops, reading-goes-on}
 use Rattle.read_plant.specs.Plant.{recordStart, recordRuling}
 use Rattle.read_plant.proofs.Records.{ruling-is, next-start, start-none}
 use Prim.Native.Nat.{_≤_, _-_}

@@ -4,7 +4,7 @@ use mathlib.Core.List.{List}
 use native.Mathlib.Numerals.{add-one}
 use borrow.Author.Tests.{not-true, not-false}
 use Rattle.spec_plain.specs.declared.Job.{Job}
-use Rattle.part_lines.specs.Held.{jobsOf, jobsFrom}
+use Rattle.part_lines.specs.ArrayLists.{jobsOf, jobsFrom}
 use Rattle.part_boardwords.specs.Layout.{countAt}
 use Rattle.part_boardwords.specs.Words.{wordIn, heldJobs}
 use Rattle.part_boardwords.proofs.Lent.{length-lent, with-word}
@@ -65,8 +65,8 @@ returns c =
     (tried .try-rules .ensures .0) .0
     no (tried .try-rules .ensures .1 no)
 
-put-clock-requires : tie.Need-put-clock-requires
-put-clock-requires c κs =
+write-clock-requires : tie.Need-write-clock-requires
+write-clock-requires c κs =
     let entry = c .before .before .before .before .before .before .before .before .before .before .before .before in
     let P = entry .pre in
     let W = entry .args .w .now in
@@ -81,8 +81,8 @@ tidy-lines-requires c κs =
     let W = A .w .now in
     let t = c .before .before .before .before .before .before .before .before .try-rules .last .0 in
     let put = c .before .before .before in
-    let ex = clocked-kept W (P .1 .0) (P .0) t (A .c) (λ (js : List Job). js) _ (put .put-clock .ensures) in
-    (search needs, few-after W (P .1 .0) (P .0) t (A .c) (jobsFrom (jobsOf (heldJobs (wordIn W)))) (put .put-clock .last .0) ex)
+    let ex = clocked-kept W (P .1 .0) (P .0) t (A .c) (λ (js : List Job). js) _ (put .write-clock .ensures) in
+    (search needs, few-after W (P .1 .0) (P .0) t (A .c) (jobsFrom (jobsOf (heldJobs (wordIn W)))) (put .write-clock .last .0) ex)
 
 returns-2 : tie.Need-returns-2
 returns-2 c =
@@ -96,11 +96,11 @@ returns-2 c =
     let P = entry .pre in
     let W = A .w .now in
     let t = tried .try-rules .last .0 in
-    let ex = clocked-kept W (P .1 .0) (P .0) t (A .c) (λ (js : List Job). js) _ (put .put-clock .ensures) in
+    let ex = clocked-kept W (P .1 .0) (P .0) t (A .c) (λ (js : List Job). js) _ (put .write-clock .ensures) in
     let n = add-one _ ∙ ap suc (counted .points-in .ensures) in
     clocked-words W (P .0) (P .1 .0) (A .settings) (P .1 .1) (A .c) (P .1 .2) (P .1 .3) _ _ _ _ (made .start-rules .ensures) n
     (tried .try-rules .ensures .0) .1
-    (put .put-clock .last .0) _ (not-false _ (tested .if1 .left)) (omega (arith, P .0, tested .before .before .w .given)) ex
+    (put .write-clock .last .0) _ (not-false _ (tested .if1 .left)) (omega (arith, P .0, tested .before .before .w .given)) ex
     (c .before .before .tidy-lines .ensures)
 
 pub move-clock-spec : {M : Type 1} → statement M
@@ -108,4 +108,4 @@ move-clock-spec =
     tie.close
     (tie.spec
     points-in-requires (λ c. search needs) (λ c. search needs) add-start-rules start-rules-requires (λ c. search needs) (λ c. search needs)
-    (λ c. search needs) try-rules-requires (λ c. search needs) returns put-clock-requires tidy-lines-requires (λ c. search needs) returns-2)
+    (λ c. search needs) try-rules-requires (λ c. search needs) returns write-clock-requires tidy-lines-requires (λ c. search needs) returns-2)

@@ -3,7 +3,7 @@ use Prim.Native.Nat.{_+_, _-_}
 use native.Mathlib.Omega.{arith}
 use borrow.Author.Needs.{needs}
 use Rattle.spec_plain.specs.Plain.{trayGap, allEndBy}
-use Rattle.part_lines.specs.Held.{linesOf}
+use Rattle.part_lines.specs.ArrayLists.{linesOf}
 use Rattle.part_boardwords.specs.Words.{wordIn, linesRead}
 use Rattle.part_gaps.proofs.Overlaid.{origin-row}
 use Rattle.call_dispatch.proofs.Ended.{last-late, last-over}

@@ -4,7 +4,7 @@ use mathlib.Core.Path.{subst, _≡_, refl}
 use Prim.Native.Nat.{_≤_, _-_}
 use native.Mathlib.Omega.{arith}
 use lib.ListN.{drop}
-use Rattle.part_lines.specs.Held.{lineOf}
+use Rattle.part_lines.specs.ArrayLists.{lineOf}
 use Rattle.part_lines.specs.Asked.{Short}
 use Rattle.part_lines.proofs.Lists.{held-over}
 use Rattle.part_boardwords.specs.Words.{wordIn, usesRead, lineRead}

@@ -4,7 +4,7 @@ use borrow.Author.Needs.{needs}
 use mathlib.Core.Path.{sym, _∙_, ap, ap₂, subst}
 use mathlib.Core.List.{List}
 use Rattle.spec_plain.specs.declared.Settings.{Settings}
-use Rattle.spec_stn.specs.Table.{implied}
+use Rattle.spec_stn.specs.Table.{entailsAll}
 use Rattle.part_gaps.specs.Cells.{tableOf}
 use Rattle.call_dispatch.specs.Ending.{InReach}
 use Rattle.part_boardwords.specs.Layout.{clockAt}
@@ -30,7 +30,7 @@ returns c =
     let A = entry .args in
     let W = A .w .now in
     c .are-over .ensures
-    ∙ ap₂ (λ (l : List ℕ) (s : Settings). implied (tableOf l) (ends s (1 + A .m - 1) (wordIn W clockAt) (A .m) (linesRead (wordIn W))))
+    ∙ ap₂ (λ (l : List ℕ) (s : Settings). entailsAll (tableOf l) (ends s (1 + A .m - 1) (wordIn W clockAt) (A .m) (linesRead (wordIn W))))
     (cells-lent W (entry .pre .0)) (read .settings-in .ensures)
 
 pub is-over-spec : {M : Type 1} → statement M

@@ -5,7 +5,7 @@ use lib.ListN.{drop}
 use native.Mathlib.Numerals.{add-one}
 use borrow.Author.Tests.{not-true, not-false}
 use Rattle.spec_plain.specs.declared.Job.{Job}
-use Rattle.part_lines.specs.Held.{jobsOf, jobsFrom}
+use Rattle.part_lines.specs.ArrayLists.{jobsOf, jobsFrom}
 use Rattle.part_boardwords.specs.Layout.{countAt}
 use Rattle.part_boardwords.specs.Words.{wordIn, heldJobs}
 use Rattle.part_boardwords.proofs.Lent.{length-lent, with-word}

@@ -5,7 +5,7 @@ use native.Mathlib.Omega.{arith}
 use lib.ListN.{length}
 use borrow.Author.Needs.{needs}
 use Rattle.spec_plain.specs.declared.Job.{Job}
-use Rattle.part_lines.specs.Held.{jobsOf}
+use Rattle.part_lines.specs.ArrayLists.{jobsOf}
 use Rattle.part_lines.proofs.JobLaws.{unsent-past, unsent-at}
 use Rattle.part_boardwords.specs.Layout.{countAt}
 use Rattle.part_boardwords.specs.Words.{wordIn, heldJobs}

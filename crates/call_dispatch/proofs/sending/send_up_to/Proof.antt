@@ -4,9 +4,9 @@ use mathlib.Core.Path.{subst, sym, _∙_, ap}
 use mathlib.Core.List.{List}
 use native.Mathlib.Numerals.{add-one}
 use Rattle.spec_plain.specs.declared.Job.{Job}
-use Rattle.spec_plain.specs.Plain.{total, unsentPoints, marked}
+use Rattle.spec_plain.specs.Plain.{total, unsentPoints, sentUpTo}
 use Rattle.part_lines.specs.declared.Jobs.{Jobs}
-use Rattle.part_lines.specs.Held.{jobsOf, jobsFrom}
+use Rattle.part_lines.specs.ArrayLists.{jobsOf, jobsFrom}
 use Rattle.part_lines.specs.Asked.{Sized}
 use Rattle.part_settling.specs.Frozen.{frozen}
 use Rattle.part_boardwords.specs.Layout.{countAt}
@@ -47,8 +47,8 @@ tidy-lines-requires : tie.Need-tidy-lines-requires
 tidy-lines-requires c κs = let A = c .before .before .before .before .before .before .before .before .before .before .before .before .before .before .args in
     let P = c .before .before .before .before .before .before .before .before .before .before .before .before .before .before .pre in
     let t = c .before .before .before .before .before .before .before .freeze .last .0 in
-    let ex = fronted-kept (A .w .now) (P .1 .0) (P .0) t (λ (js : List Job). marked (A .place + 1) js) _ (c .before .before .before .mark-sent .ensures) in
-    (search needs, few-after (A .w .now) (P .1 .0) (P .0) t _ (jobsFrom (marked (A .place + 1) (jobsOf (heldJobs (wordIn (A .w .now)))))) (c .before .before .before .mark-sent .last .0) ex)
+    let ex = fronted-kept (A .w .now) (P .1 .0) (P .0) t (λ (js : List Job). sentUpTo (A .place + 1) js) _ (c .before .before .before .mark-sent .ensures) in
+    (search needs, few-after (A .w .now) (P .1 .0) (P .0) t _ (jobsFrom (sentUpTo (A .place + 1) (jobsOf (heldJobs (wordIn (A .w .now)))))) (c .before .before .before .mark-sent .last .0) ex)
 
 returns : tie.Need-returns
 returns c = let A = c .before .before .before .before .before .before .before .before .before .before .before .before .before .before .before .before .before .args in
@@ -56,7 +56,7 @@ returns c = let A = c .before .before .before .before .before .before .before .b
     let t = c .before .before .before .before .before .before .before .before .before .before .freeze .last .0 in
     let n = add-one _ ∙ ap suc (c .before .before .before .before .before .before .before .before .before .before .before .before .before .before .points-in .ensures) in
     let et = c .before .before .before .before .before .before .before .before .before .before .freeze .ensures ∙ ap (λ (j : Jobs). frozen (c .before .before .before .before .before .before .before .before .before .before .before .before .before .before .points-in .result + 1) (unsentPoints 1 (A .place + 1) (jobsOf j)) (lentTable (A .w .now))) (c .before .before .before .before .before .before .before .before .before .before .before .before .read-jobs .ensures) in
-    sent-words (A .w .now) (P .0) (P .1 .0) (A .place) (P .1 .1) _ t (c .before .before .before .before .before .before .mark-sent .last .0) _ n et (omega arith) (fronted-kept (A .w .now) (P .1 .0) (P .0) t (λ (js : List Job). marked (A .place + 1) js) _ (c .before .before .before .before .before .before .mark-sent .ensures)) (c .before .before .tidy-lines .ensures)
+    sent-words (A .w .now) (P .0) (P .1 .0) (A .place) (P .1 .1) _ t (c .before .before .before .before .before .before .mark-sent .last .0) _ n et (omega arith) (fronted-kept (A .w .now) (P .1 .0) (P .0) t (λ (js : List Job). sentUpTo (A .place + 1) js) _ (c .before .before .before .before .before .before .mark-sent .ensures)) (c .before .before .tidy-lines .ensures)
 
 pub send-up-to-spec : {M : Type 1} → statement M
 send-up-to-spec =

@@ -1,6 +1,6 @@
 -- `column_of` meets its contract: the division, and the least of it and the last column.
 use borrow.Author.Needs.{needs}
-use Rattle.log_chart.proofs.Laws.{column-is}
+use Rattle.log_chart.proofs.ChartLaws.{column-is}
 use Rattle.log_chart.proofs.rows.column_of.Statement.{statement}
 use Rattle.log_chart.proofs.rows.column_of.Tie as tie
 

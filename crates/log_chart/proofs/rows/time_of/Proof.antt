@@ -1,7 +1,7 @@
 -- `time_of` meets its contract: 80 of the widest columns fit the sum.
 use mathlib.Core.Path.{refl}
 use native.Mathlib.Omega.{arith}
-use Rattle.log_chart.proofs.Laws.{column-most}
+use Rattle.log_chart.proofs.ChartLaws.{column-most}
 use Rattle.log_chart.proofs.rows.time_of.Statement.{statement}
 use Rattle.log_chart.proofs.rows.time_of.Tie as tie
 

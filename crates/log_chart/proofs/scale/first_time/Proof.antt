@@ -5,7 +5,7 @@ use native.Mathlib.Omega.{arith}
 use borrow.Author.Needs.{needs}
 use Rattle.part_gaps.specs.Cells.{tableOf}
 use Rattle.log_chart.specs.Chart.{firstTime}
-use Rattle.log_chart.proofs.Laws.{first-next}
+use Rattle.log_chart.proofs.ChartLaws.{first-next}
 use Rattle.log_chart.proofs.scale.first_time.Statement.{statement}
 use Rattle.log_chart.proofs.scale.first_time.Tie as tie
 

@@ -1,6 +1,6 @@
 -- `is_fit` meets its contract: the same comparison.
 use borrow.Author.Needs.{needs}
-use Rattle.log_chart.proofs.Laws.{fits-is}
+use Rattle.log_chart.proofs.ChartLaws.{fits-is}
 use Rattle.log_chart.proofs.scale.is_fit.Statement.{statement}
 use Rattle.log_chart.proofs.scale.is_fit.Tie as tie
 

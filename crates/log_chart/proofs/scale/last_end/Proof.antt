@@ -4,12 +4,12 @@ use mathlib.Core.Path.{_≡_, refl, _∙_, ap}
 use native.Mathlib.Omega.{arith}
 use lib.ListN.{drop}
 use borrow.Author.Needs.{needs}
-use Rattle.part_lines.specs.Held.{lineOf}
+use Rattle.part_lines.specs.ArrayLists.{lineOf}
 use Rattle.part_gaps.specs.Cells.{tableOf}
 use Rattle.part_boardwords.specs.Words.{wordIn, lineRead}
 use Rattle.part_sound.proofs.InWords.{use-next, use-over}
 use Rattle.log_chart.specs.Chart.{lastEnd}
-use Rattle.log_chart.proofs.Laws.{use-low, end-next, end-done}
+use Rattle.log_chart.proofs.ChartLaws.{use-low, end-next, end-done}
 use Rattle.log_chart.proofs.scale.last_end.Statement.{statement}
 use Rattle.log_chart.proofs.scale.last_end.Tie as tie
 

@@ -5,7 +5,7 @@ use native.Mathlib.Omega.{arith}
 use borrow.Author.Needs.{needs}
 use Rattle.part_gaps.specs.Cells.{tableOf}
 use Rattle.log_chart.specs.Chart.{lastTime}
-use Rattle.log_chart.proofs.Laws.{last-next}
+use Rattle.log_chart.proofs.ChartLaws.{last-next}
 use Rattle.log_chart.proofs.scale.last_time.Statement.{statement}
 use Rattle.log_chart.proofs.scale.last_time.Tie as tie
 

@@ -5,13 +5,13 @@ use native.Mathlib.Omega.{arith}
 use lib.ListN.{drop}
 use Rattle.spec_plain.specs.Limits.{resources}
 use Rattle.part_lines.specs.declared.Line.{Line}
-use Rattle.part_lines.specs.Held.{lineOf}
+use Rattle.part_lines.specs.ArrayLists.{lineOf}
 use Rattle.base_lists.proofs.Build.{build-length}
 use Rattle.part_gaps.specs.Cells.{tableOf}
 use Rattle.part_boardwords.specs.Words.{wordIn, lineRead, lineAt, linesRead}
 use Rattle.part_boardwords.proofs.Boards.{line-of}
 use Rattle.log_chart.specs.Chart.{OnTable, lastEnd, linesEnd}
-use Rattle.log_chart.proofs.Laws.{lines-next, lines-done}
+use Rattle.log_chart.proofs.ChartLaws.{lines-next, lines-done}
 use Rattle.log_chart.proofs.scale.lines_end.Statement.{statement}
 use Rattle.log_chart.proofs.scale.lines_end.Tie as tie
 

@@ -1,7 +1,7 @@
 -- `nth_width` meets its contract: the table is the list of widths.
 use mathlib.Core.Path.{refl}
 use borrow.Author.Needs.{needs}
-use Rattle.log_chart.proofs.Laws.{width-sized}
+use Rattle.log_chart.proofs.ChartLaws.{width-sized}
 use Rattle.log_chart.proofs.scale.nth_width.Statement.{statement}
 use Rattle.log_chart.proofs.scale.nth_width.Tie as tie
 

@@ -1,7 +1,7 @@
 -- `scale_of` meets its contract: the span, the width and the beginning are those defined.
 use native.Mathlib.Omega.{arith}
 use borrow.Author.Needs.{needs}
-use Rattle.log_chart.proofs.Laws.{scale-is}
+use Rattle.log_chart.proofs.ChartLaws.{scale-is}
 use Rattle.log_chart.proofs.scale.scale_of.Statement.{statement}
 use Rattle.log_chart.proofs.scale.scale_of.Tie as tie
 

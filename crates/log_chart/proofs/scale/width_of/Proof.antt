@@ -5,7 +5,7 @@ use native.Mathlib.Omega.{arith}
 use lib.ListN.{drop}
 use borrow.Author.Needs.{needs}
 use Rattle.log_chart.specs.Chart.{firstFit, widthOf, widths}
-use Rattle.log_chart.proofs.Laws.{width-fits, width-next, width-done}
+use Rattle.log_chart.proofs.ChartLaws.{width-fits, width-next, width-done}
 use Rattle.log_chart.proofs.scale.width_of.Statement.{statement}
 use Rattle.log_chart.proofs.scale.width_of.Tie as tie
 

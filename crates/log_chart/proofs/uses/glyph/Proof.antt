@@ -1,7 +1,7 @@
 -- `glyph` meets its contract: a digit, or a letter.
 use native.Mathlib.Omega.{arith}
 use borrow.Author.Needs.{needs}
-use Rattle.log_chart.proofs.Laws.{glyph-digit, glyph-letter}
+use Rattle.log_chart.proofs.ChartLaws.{glyph-digit, glyph-letter}
 use Rattle.log_chart.proofs.uses.glyph.Statement.{statement}
 use Rattle.log_chart.proofs.uses.glyph.Tie as tie
 

@@ -4,12 +4,12 @@ use mathlib.Core.Path.{_≡_, sym, _∙_}
 use native.Mathlib.Omega.{arith}
 use lib.ListN.{drop}
 use borrow.Author.Needs.{needs}
-use Rattle.part_lines.specs.Held.{jobsOf}
+use Rattle.part_lines.specs.ArrayLists.{jobsOf}
 use Rattle.part_boardwords.specs.Layout.{countAt}
 use Rattle.part_boardwords.specs.Words.{wordIn, heldJobs}
 use Rattle.part_boardwords.proofs.Boards.{job-next, job-over}
 use Rattle.log_chart.specs.Chart.{jobOf}
-use Rattle.log_chart.proofs.Laws.{job-here, job-on, job-end}
+use Rattle.log_chart.proofs.ChartLaws.{job-here, job-on, job-end}
 use Rattle.log_chart.proofs.uses.job_of.Statement.{statement}
 use Rattle.log_chart.proofs.uses.job_of.Tie as tie
 

@@ -3,12 +3,12 @@ use Prim.Native.Nat.{_≤_, _-_}
 use mathlib.Core.Path.{_≡_, refl}
 use native.Mathlib.Omega.{arith}
 use lib.ListN.{drop}
-use Rattle.part_lines.specs.Held.{jobsOf, lineOf}
+use Rattle.part_lines.specs.ArrayLists.{jobsOf, lineOf}
 use Rattle.part_gaps.specs.Cells.{tableOf}
 use Rattle.part_boardwords.specs.Words.{wordIn, heldJobs, lineRead}
 use Rattle.part_sound.proofs.InWords.{use-next, use-over}
-use Rattle.log_chart.specs.Chart.{markAt}
-use Rattle.log_chart.proofs.Laws.{use-low, mark-next, mark-end}
+use Rattle.log_chart.specs.Chart.{glyphOver}
+use Rattle.log_chart.proofs.ChartLaws.{use-low, mark-next, mark-end}
 use Rattle.log_chart.proofs.uses.mark_at.Statement.{statement}
 use Rattle.log_chart.proofs.uses.mark_at.Tie as tie
 
@@ -17,7 +17,7 @@ Inv-loop t w at from to count mark₀ k₀ mark k =
     let f = wordIn w in
     let js = jobsOf (heldJobs f) in
     let us = lineOf (lineRead f at) in
-    (k ≤ count) × (markAt (tableOf t) js (drop k us) from to mark ≡ markAt (tableOf t) js us from to 32)
+    (k ≤ count) × (glyphOver (tableOf t) js (drop k us) from to mark ≡ glyphOver (tableOf t) js us from to 32)
 
 abbrev μ-loop : tie.MeasureT-loop
 μ-loop t w at from to count mark₀ k₀ mark k = count - k

@@ -2,7 +2,7 @@
 use mathlib.Core.Path.{sym, _∙_, ap}
 use borrow.Author.Needs.{needs}
 use Rattle.log_chart.specs.Chart.{glyphOf}
-use Rattle.log_chart.proofs.Laws.{mark-over, mark-left}
+use Rattle.log_chart.proofs.ChartLaws.{mark-over, mark-left}
 use Rattle.log_chart.proofs.uses.mark_over.Statement.{statement}
 use Rattle.log_chart.proofs.uses.mark_over.Tie as tie
 

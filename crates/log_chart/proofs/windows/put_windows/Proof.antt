@@ -5,10 +5,10 @@ use mathlib.Core.Path.{_≡_, refl, ap}
 use native.Mathlib.Omega.{arith}
 use lib.ListN.{drop, length}
 use Rattle.spec_plain.specs.Plain.{total}
-use Rattle.part_lines.specs.Held.{jobsOf}
+use Rattle.part_lines.specs.ArrayLists.{jobsOf}
 use Rattle.part_boardwords.specs.Words.{wordIn, heldJobs}
 use Rattle.part_boardwords.proofs.Boards.{job-next}
-use Rattle.log_chart.proofs.Laws.{job-some}
+use Rattle.log_chart.proofs.ChartLaws.{job-some}
 use Rattle.log_chart.proofs.windows.put_windows.Statement.{statement}
 use Rattle.log_chart.proofs.windows.put_windows.Tie as tie
 

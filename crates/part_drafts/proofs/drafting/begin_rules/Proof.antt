@@ -4,7 +4,7 @@ use mathlib.Core.Path.{_∙_, ap}
 use native.Mathlib.Omega.{arith}
 use borrow.Author.Needs.{needs}
 use Rattle.spec_plain.specs.Plain.{notBefore, durations}
-use Rattle.part_lines.specs.Held.{rulesFrom, stepsOf}
+use Rattle.part_lines.specs.ArrayLists.{rulesFrom, stepsOf}
 use Rattle.spec_plain.specs.declared.Rule.{Rule}
 use Rattle.part_lines.proofs.RuleLaws.{Room-of, rules-back, first-pushed}
 use Rattle.part_drafts.proofs.drafting.begin_rules.Statement.{statement}

@@ -1,8 +1,8 @@
 -- `draft` meets its contract: 14, a stop of placing, or the job joins. That it is not 14 bounds the number of points.
 use lib.ListN.{length-take, length}
 use Rattle.spec_plain.specs.Plain.{withSettings, liveCount}
-use Rattle.part_putwords.specs.Puts.{putsIn}
-use Rattle.part_lines.specs.Held.{stepsOf, heldOffer}
+use Rattle.part_allocations.specs.Allocations.{allocationsIn}
+use Rattle.part_lines.specs.ArrayLists.{stepsOf, heldOffer}
 use Rattle.part_lines.proofs.Lists.{length-held, length-mapped}
 use Rattle.part_lines.proofs.DraftLaws.{within}
 use Rattle.base_rulings.specs.Answer.{plain}
@@ -21,7 +21,7 @@ returns c =
     let entry = c .before .before .before .before .before .before in
     let A = entry .args in
     let s = withSettings (stateOf (boardIn (A .w .now))) (A .settings) in
-    let o = heldOffer (A .batch) (A .steps) (putsIn (A .puts .now) (A .many)) in
+    let o = heldOffer (A .batch) (A .steps) (allocationsIn (A .allocations .now) (A .many)) in
     let len : length (A .steps .steps) ≡ 8 = search (needs, length-mapped, entry .good .1 .1 .1 .1 .0) in
     let size = length-held (A .steps .count) (A .steps .steps) (omega (arith, entry .pre .1 .1 .1)) in
     stops-as (c .refused .result) _ (plain 14) (c .refused .ensures)
@@ -55,7 +55,7 @@ returns-2 c =
     let entry = c .before .before .before .before .before .before .before .before .before .before .before .before .before in
     let A = entry .args in
     let s = withSettings (stateOf (boardIn (A .w .now))) (A .settings) in
-    let o = heldOffer (A .batch) (A .steps) (putsIn (A .puts .now) (A .many)) in
+    let o = heldOffer (A .batch) (A .steps) (allocationsIn (A .allocations .now) (A .many)) in
     let len : length (A .steps .steps) ≡ 8 = search (needs, length-mapped, entry .good .1 .1 .1 .1 .0) in
     let size = length-held (A .steps .count) (A .steps .steps) (omega (arith, entry .pre .1 .1 .1)) in
     let few : length (stepsOf (A .steps)) ≤ 8 = omega (arith, entry .pre .1 .1 .1, size) in
@@ -78,7 +78,7 @@ returns-3 c =
     let tested = began .before .before .before in
     let full = tested .before in
     let s = withSettings (stateOf (boardIn (A .w .now))) (A .settings) in
-    let o = heldOffer (A .batch) (A .steps) (putsIn (A .puts .now) (A .many)) in
+    let o = heldOffer (A .batch) (A .steps) (allocationsIn (A .allocations .now) (A .many)) in
     let size = length-held (A .steps .count) (A .steps .steps) (omega (arith, entry .pre .1 .1 .1, len)) in
     let few : length (stepsOf (A .steps)) ≤ 8 = omega (arith, entry .pre .1 .1 .1, size) in
     let first : A .n + 1 ≡ liveCount s = omega (arith, entry .pre .1 .0 .1) in

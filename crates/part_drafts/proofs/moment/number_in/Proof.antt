@@ -5,7 +5,7 @@ use mathlib.Core.Logic.{⊎-elim}
 use native.Mathlib.Omega.{arith}
 use lib.ListN.{length}
 use Rattle.spec_plain.specs.Limits.{mostUses}
-use Rattle.spec_plain.specs.declared.Put.{Put}
+use Rattle.spec_plain.specs.declared.Allocation.{Allocation}
 use Rattle.part_boardwords.specs.Layout.{lineStart}
 use Rattle.part_boardwords.specs.Words.{wordIn}
 use Rattle.part_boardwords.proofs.Boards.{held-size}
@@ -15,10 +15,10 @@ use Rattle.part_drafts.proofs.moment.number_in.Statement.{statement}
 use Rattle.part_drafts.proofs.moment.number_in.Tie as tie
 
 abbrev Inv-loop : tie.InvT-loop
-Inv-loop w puts k resource n₀ j₀ n j = (j ≤ k) × (n ≤ mostUses + j) × ((x : ℕ) → n ≡ length (lineThen x w puts j resource))
+Inv-loop w allocations k resource n₀ j₀ n j = (j ≤ k) × (n ≤ mostUses + j) × ((x : ℕ) → n ≡ length (lineThen x w allocations j resource))
 
 abbrev μ-loop : tie.MeasureT-loop
-μ-loop w puts k resource n₀ j₀ n j = k - j
+μ-loop w allocations k resource n₀ j₀ n j = k - j
 
 cast-n : tie.Need-cast-n Inv-loop μ-loop
 cast-n c =
@@ -39,11 +39,11 @@ loop-holds c =
     let count = ap w (start .line-start .ensures) in (
       omega arith,
       omega (arith, few, count),
-      λ x. count ∙ sym (ap length (then-none x (A .w .now) (A .puts .now) (A .resource) (p .3)) ∙ held-size w (lineStart (A .resource)) few),
+      λ x. count ∙ sym (ap length (then-none x (A .w .now) (A .allocations .now) (A .resource) (p .3)) ∙ held-size w (lineStart (A .resource)) few),
     )
 
-read-put-requires : tie.Need-read-put-requires Inv-loop μ-loop
-read-put-requires c κs =
+read-allocation-requires : tie.Need-read-allocation-requires Inv-loop μ-loop
+read-allocation-requires c κs =
     let turn = c .before in
     let entry = turn .before .before .before .before .before in
     omega (arith, entry .pre .2 .there)
@@ -63,12 +63,12 @@ loop-again c =
     let p = entry .pre in
     let L = turn .loop in
     let W = A .w .now in
-    let is = ap (λ (q : Put). q .resource) (read .read-put .ensures) in (
+    let is = ap (λ (q : Allocation). q .resource) (read .read-allocation .ensures) in (
       omega arith,
       ⊎-elim (λ v. omega (arith, v .1, L .inv .1)) (λ v. omega (arith, v .1, L .inv .1)) (c .if1 .came),
       λ x.
-          ⊎-elim (λ v. omega (arith, v .1, L .inv .2 x, then-long x W (A .puts .now) (L .j) (A .resource) (sym is ∙ v .0 .taken) (p .3)))
-          (λ v. omega (arith, v .1, L .inv .2 x, ap length (then-other x W (A .puts .now) (L .j) (A .resource) (λ e. v .0 .left (is ∙ e)))))
+          ⊎-elim (λ v. omega (arith, v .1, L .inv .2 x, then-long x W (A .allocations .now) (L .j) (A .resource) (sym is ∙ v .0 .taken) (p .3)))
+          (λ v. omega (arith, v .1, L .inv .2 x, ap length (then-other x W (A .allocations .now) (L .j) (A .resource) (λ e. v .0 .left (is ∙ e)))))
           (c .if1 .came),
     )
 
@@ -78,11 +78,11 @@ returns c =
     let A = turn .before .before .before .before .before .args in
     let L = turn .loop in
     let end : L .j ≡ A .k = omega arith in
-    λ x. L .inv .2 x ∙ ap (λ (j : ℕ). length (lineThen x (A .w .now) (A .puts .now) j (A .resource))) end
+    λ x. L .inv .2 x ∙ ap (λ (j : ℕ). length (lineThen x (A .w .now) (A .allocations .now) j (A .resource))) end
 
 pub number-in-spec : {M : Type 1} → statement M
 number-in-spec =
     tie.close
     (tie.spec
     Inv-loop μ-loop (λ c κs. omega arith) (λ c. omega arith) (λ c. omega (arith, c .before .line-start .ensures)) cast-n
-    loop-holds read-put-requires add-n (λ c. omega arith) (λ c. omega arith) loop-again returns)
+    loop-holds read-allocation-requires add-n (λ c. omega arith) (λ c. omega arith) loop-again returns)

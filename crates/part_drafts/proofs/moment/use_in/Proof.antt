@@ -6,7 +6,7 @@ use native.Mathlib.Omega.{arith}
 use lib.ListN.{getD}
 use Rattle.spec_plain.specs.Limits.{resources}
 use Rattle.spec_plain.specs.Plain.{noUse, usedFrom}
-use Rattle.spec_plain.specs.declared.Put.{Put}
+use Rattle.spec_plain.specs.declared.Allocation.{Allocation}
 use Rattle.spec_plain.specs.declared.Use.{Use}
 use Rattle.part_lines.specs.Asked.{Lined}
 use Rattle.part_boardwords.specs.Layout.{lineStart}
@@ -17,29 +17,29 @@ use Rattle.part_drafts.proofs.moment.use_in.Statement.{statement}
 use Rattle.part_drafts.proofs.moment.use_in.Tie as tie
 
 abbrev Inv-loop : tie.InvT-loop
-Inv-loop w first puts k line place at₀ j₀ at j = (j ≤ k) × Sought first w puts line (getD (lineThen first w puts k line) place noUse) j at
+Inv-loop w first allocations k line place at₀ j₀ at j = (j ≤ k) × Sought first w allocations line (getD (lineThen first w allocations k line) place noUse) j at
 
 abbrev μ-loop : tie.MeasureT-loop
-μ-loop w first puts k line place at₀ j₀ at j = j
+μ-loop w first allocations k line place at₀ j₀ at j = j
 
 -- the last of j allocations is number j - 1
-down : (w : List ℕ) (x : ℕ) (puts : List ℕ) (r j at : ℕ) {u : Use} → Sought x w puts r u j at → 0 < j → Sought x w puts r u (j - 1 + 1) at
-down w x puts r j at {u = u} s h = subst (λ (i : ℕ). Sought x w puts r u i at) {x = j} {y = j - 1 + 1} (omega arith) s
+down : (w : List ℕ) (x : ℕ) (allocations : List ℕ) (r j at : ℕ) {u : Use} → Sought x w allocations r u j at → 0 < j → Sought x w allocations r u (j - 1 + 1) at
+down w x allocations r j at {u = u} s h = subst (λ (i : ℕ). Sought x w allocations r u i at) {x = j} {y = j - 1 + 1} (omega arith) s
 
 -- after the last turn the use is one of the words
 found :
-    {x : ℕ} {w puts : List ℕ} {r : ℕ} {u : Use} {j at : ℕ} → Sought x w puts r u j at → j ≤ 0 → r < resources → Lined (linesRead (wordIn w))
+    {x : ℕ} {w allocations : List ℕ} {r : ℕ} {u : Use} {j at : ℕ} → Sought x w allocations r u j at → j ≤ 0 → r < resources → Lined (linesRead (wordIn w))
     → (at < 32) × (u ≡ useAt (wordIn w) (lineStart r) at)
-found {x = x} {w = w} {puts = puts} {r = r} {u = u} {j = j} {at = at} s h =
-    look-words (subst (λ (i : ℕ). Sought x w puts r u i at) {x = j} {y = 0} (omega arith) s)
+found {x = x} {w = w} {allocations = allocations} {r = r} {u = u} {j = j} {at = at} s h =
+    look-words (subst (λ (i : ℕ). Sought x w allocations r u i at) {x = j} {y = 0} (omega arith) s)
 
 loop-holds : tie.Need-loop-holds Inv-loop μ-loop
 loop-holds c =
     let entry = c .before .before in
     (omega arith, record { fits = entry .pre .1 .0; below = entry .pre .1 .1; is = refl })
 
-read-put-requires : tie.Need-read-put-requires Inv-loop μ-loop
-read-put-requires c κs =
+read-allocation-requires : tie.Need-read-allocation-requires Inv-loop μ-loop
+read-allocation-requires c κs =
     let entry = c .before .before .before .before in
     omega (arith, entry .pre .0 .2 .there)
 
@@ -48,7 +48,7 @@ used-from-requires c κs =
     let read = c .before .before .before .before in
     let turn = read .before .before in
     let p = turn .before .before .before .pre in
-    let step = ap (λ (q : Put). q .step) (read .read-put .ensures) in
+    let step = ap (λ (q : Allocation). q .step) (read .read-allocation .ensures) in
     (p .0 .4, omega (arith, step, p .0 .2 .each (turn .loop .j - 1) (omega arith) .step))
 
 returns : tie.Need-returns Inv-loop μ-loop
@@ -60,11 +60,11 @@ returns c =
     let entry = turn .before .before .before in
     let A = entry .args in
     let L = turn .loop in
-    let s = down (A .w .now) (A .first) (A .puts .now) (A .resource) (L .j) (L .at) (L .inv .1) (omega arith) in
-    let put = read .read-put .ensures in
-    let resource = sym (ap (λ (q : Put). q .resource) put) ∙ own .if1 .taken in
-    let place = sym (ap (λ (q : Put). q .place) put) ∙ here .if2 .taken in
-    c .used-from .ensures ∙ ap (usedFrom (A .first)) put ∙ sym (look-here (L .j - 1) s resource (entry .pre .0 .3) place)
+    let s = down (A .w .now) (A .first) (A .allocations .now) (A .resource) (L .j) (L .at) (L .inv .1) (omega arith) in
+    let allocation = read .read-allocation .ensures in
+    let resource = sym (ap (λ (q : Allocation). q .resource) allocation) ∙ own .if1 .taken in
+    let place = sym (ap (λ (q : Allocation). q .place) allocation) ∙ here .if2 .taken in
+    c .used-from .ensures ∙ ap (usedFrom (A .first)) allocation ∙ sym (look-here (L .j - 1) s resource (entry .pre .0 .3) place)
 
 loop-again : tie.Need-loop-again Inv-loop μ-loop
 loop-again c =
@@ -74,10 +74,10 @@ loop-again c =
     let entry = turn .before .before .before in
     let A = entry .args in
     let L = turn .loop in
-    let s = down (A .w .now) (A .first) (A .puts .now) (A .resource) (L .j) (L .at) (L .inv .1) (omega arith) in
-    let put = read .read-put .ensures in
-    let resource = sym (ap (λ (q : Put). q .resource) put) ∙ own .if1 .taken in
-    let place = ap (λ (q : Put). q .place) put in
+    let s = down (A .w .now) (A .first) (A .allocations .now) (A .resource) (L .j) (L .at) (L .inv .1) (omega arith) in
+    let allocation = read .read-allocation .ensures in
+    let resource = sym (ap (λ (q : Allocation). q .resource) allocation) ∙ own .if1 .taken in
+    let place = ap (λ (q : Allocation). q .place) allocation in
     (omega arith, look-behind (L .j - 1) s resource (entry .pre .0 .3) (omega (arith, place, c .if3 .taken)))
 
 loop-again-2 : tie.Need-loop-again-2 Inv-loop μ-loop
@@ -89,10 +89,10 @@ loop-again-2 c =
     let entry = turn .before .before .before in
     let A = entry .args in
     let L = turn .loop in
-    let s = down (A .w .now) (A .first) (A .puts .now) (A .resource) (L .j) (L .at) (L .inv .1) (omega arith) in
-    let put = read .read-put .ensures in
-    let resource = sym (ap (λ (q : Put). q .resource) put) ∙ own .if1 .taken in
-    let place = ap (λ (q : Put). q .place) put in
+    let s = down (A .w .now) (A .first) (A .allocations .now) (A .resource) (L .j) (L .at) (L .inv .1) (omega arith) in
+    let allocation = read .read-allocation .ensures in
+    let resource = sym (ap (λ (q : Allocation). q .resource) allocation) ∙ own .if1 .taken in
+    let place = ap (λ (q : Allocation). q .place) allocation in
     (omega arith, look-before (L .j - 1) s resource (entry .pre .0 .3) (omega (arith, place, c .if3 .left, not-here .if2 .left)))
 
 loop-again-3 : tie.Need-loop-again-3 Inv-loop μ-loop
@@ -101,8 +101,8 @@ loop-again-3 c =
     let turn = read .before .before in
     let A = turn .before .before .before .args in
     let L = turn .loop in
-    let s = down (A .w .now) (A .first) (A .puts .now) (A .resource) (L .j) (L .at) (L .inv .1) (omega arith) in
-    (omega arith, look-other (L .j - 1) s (λ e. c .if1 .left (ap (λ (q : Put). q .resource) (read .read-put .ensures) ∙ e)))
+    let s = down (A .w .now) (A .first) (A .allocations .now) (A .resource) (L .j) (L .at) (L .inv .1) (omega arith) in
+    (omega arith, look-other (L .j - 1) s (λ e. c .if1 .left (ap (λ (q : Allocation). q .resource) (read .read-allocation .ensures) ∙ e)))
 
 use-at-requires : tie.Need-use-at-requires Inv-loop μ-loop
 use-at-requires c κs =
@@ -125,6 +125,6 @@ pub use-in-spec : {M : Type 1} → statement M
 use-in-spec =
     tie.close
     (tie.spec
-    Inv-loop μ-loop loop-holds (λ c. omega arith) read-put-requires (λ c. omega arith) used-from-requires returns (λ c. omega arith)
+    Inv-loop μ-loop loop-holds (λ c. omega arith) read-allocation-requires (λ c. omega arith) used-from-requires returns (λ c. omega arith)
     (λ c. omega arith) loop-again (λ c. omega arith) loop-again-2 (λ c. omega arith) loop-again-3 (λ c κs. omega arith)
     use-at-requires returns-2)

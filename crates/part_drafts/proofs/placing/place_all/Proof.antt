@@ -8,15 +8,15 @@ use borrow.Author.Needs.{needs}
 use Rattle.base_rulings.specs.declared.Ruling.the-variants.{Accepted}
 use Rattle.spec_plain.specs.Plain.{placed}
 use Rattle.spec_plain.specs.declared.Use.{Use}
-use Rattle.part_putwords.specs.Puts.{putAt, putsIn}
-use Rattle.part_lines.specs.Held.{rulesOf, answered, mostRules}
+use Rattle.part_allocations.specs.Allocations.{allocationAt, allocationsIn}
+use Rattle.part_lines.specs.ArrayLists.{rulesOf, answered, mostRules}
 use Rattle.part_lines.specs.Placing.{allWith, AllFit}
 use Rattle.part_lines.specs.declared.rulelist.Rules.{Rules}
 use Rattle.part_lines.proofs.Lists.{length-mapped}
 use Rattle.part_lines.proofs.RuleLaws.{Room-less}
 use Rattle.part_boardwords.specs.Words.{linesIn}
-use Rattle.part_drafts.specs.Turned.{Reached}
-use Rattle.part_putwords.proofs.Read.{read-less, left-next, left-over}
+use Rattle.part_drafts.specs.PlacedAs.{Reached}
+use Rattle.part_allocations.proofs.Read.{read-less, left-next, left-over}
 use Rattle.part_drafts.proofs.Moments.{none-yet, then-more, fits-next}
 use Rattle.part_drafts.proofs.PlaceLaws.{Going, goes-on, went-in, stops-here, all-placed}
 use Rattle.part_drafts.proofs.placing.place_all.Statement.{statement}
@@ -27,23 +27,23 @@ abbrev going : List (List Use) → Rules → Reached
 going ls rs = record { ruling = Accepted; lines = ls; rules = rs }
 
 abbrev Inv-loop : tie.InvT-loop
-Inv-loop w settings first puts n made₀ k₀ made k = (k ≤ n)
-    × Going settings first (putsIn puts n) (going (linesIn w) made₀) (going (allWith first (linesIn w) (putsIn puts k)) made) k
-    × AllFit first (linesIn w) (putsIn puts k)
+Inv-loop w settings first allocations n made₀ k₀ made k = (k ≤ n)
+    × Going settings first (allocationsIn allocations n) (going (linesIn w) made₀) (going (allWith first (linesIn w) (allocationsIn allocations k)) made) k
+    × AllFit first (linesIn w) (allocationsIn allocations k)
     × (length (made .rules) ≡ mostRules)
 
 abbrev μ-loop : tie.MeasureT-loop
-μ-loop w settings first puts n made₀ k₀ made k = n - k
+μ-loop w settings first allocations n made₀ k₀ made k = n - k
 
 loop-holds : tie.Need-loop-holds Inv-loop μ-loop
 loop-holds c =
     let A = c .before .before .args in
     let p = c .before .before .pre in
-    let none = none-yet (A .first) (A .w .now) (A .puts .now) in (
+    let none = none-yet (A .first) (A .w .now) (A .allocations .now) in (
       omega arith,
       record {
         accepted = refl;
-        runs = ap (λ (ls : List (List Use)). placed (A .settings) (A .first) 0 (putsIn (A .puts .now) (A .many)) ls (rulesOf (A .rules))) (sym (none .0));
+        runs = ap (λ (ls : List (List Use)). placed (A .settings) (A .first) 0 (allocationsIn (A .allocations .now) (A .many)) ls (rulesOf (A .rules))) (sym (none .0));
         room = p .4;
       },
       none .1,
@@ -61,9 +61,9 @@ returns c =
     let A = c .before .before .before .before .before .before .before .before .args in
     let p = c .before .before .before .before .before .before .before .before .pre in
     let L = c .before .before .before .before .before .loop in
-    let next = left-next (A .puts .now) (A .many) (L .k) (omega arith) in
+    let next = left-next (A .allocations .now) (A .many) (L .k) (omega arith) in
     let out = c .before .before .before .place-one .ensures .2 (L .made) (Room-less (L .inv .1 .room) 2 (omega (arith, p .2 .few))) in
-    (sym (stops-here (L .inv .1) (putAt (A .puts .now) (L .k)) _ next out _ (c .before .ruling .given .1)), Room-less (L .inv .1 .room) 1 (omega (arith, p .2 .few)))
+    (sym (stops-here (L .inv .1) (allocationAt (A .allocations .now) (L .k)) _ next out _ (c .before .ruling .given .1)), Room-less (L .inv .1 .room) 1 (omega (arith, p .2 .few)))
 
 add-next : tie.Need-add-next Inv-loop μ-loop
 add-next c = omega (arith, c .before .before .before .before .before .before .before .place-one .ensures .0, c .before .before .before .before .before .before .before .place-one .ensures .1, c .before .before .before .before .before .before .before .before .before .loop .inv .1 .room .fits, c .before .before .before .before .before .before .before .before .before .loop .inv .3, c .before .before .before .before .before .before .before .before .before .before .before .before .pre .2 .few)
@@ -88,13 +88,13 @@ loop-again c =
     let A = c .before .before .before .before .before .before .before .before .before .before .before .before .before .args in
     let p = c .before .before .before .before .before .before .before .before .before .before .before .before .before .pre in
     let L = c .before .before .before .before .before .before .before .before .before .before .loop in
-    let next = left-next (A .puts .now) (A .many) (L .k) (omega arith) in
+    let next = left-next (A .allocations .now) (A .many) (L .k) (omega arith) in
     let out = c .before .before .before .before .before .before .before .before .place-one .ensures .2 (L .made) (Room-less (L .inv .1 .room) 2 (omega (arith, p .2 .few))) in
-    let q = putAt (A .puts .now) (L .k) in
+    let q = allocationAt (A .allocations .now) (L .k) in
     let fit = went-in (L .inv .1) q _ next out (c .before .before .before .before .before .before .enum-told .given .1) in (
       omega arith,
-      goes-on (L .inv .1) q _ next out (c .before .before .before .before .before .before .enum-told .given .1) (omega (arith, p .2 .few)) _ (sym (then-more (A .first) (A .w .now) (A .puts .now) (L .k))),
-      fits-next (A .first) (A .w .now) (A .puts .now) (L .k) (L .inv .2) (fit .0) (fit .1),
+      goes-on (L .inv .1) q _ next out (c .before .before .before .before .before .before .enum-told .given .1) (omega (arith, p .2 .few)) _ (sym (then-more (A .first) (A .w .now) (A .allocations .now) (L .k))),
+      fits-next (A .first) (A .w .now) (A .allocations .now) (L .k) (L .inv .2) (fit .0) (fit .1),
       simp length-set (L .inv .3),
     )
 
@@ -103,8 +103,8 @@ returns-2 c =
     let A = c .before .before .before .before .args in
     let L = c .before .loop in
     let end : L .k ≡ A .many = omega arith in (
-      ap (λ (i : ℕ). answered Accepted (allWith (A .first) (linesIn (A .w .now)) (putsIn (A .puts .now) i)) (rulesOf (L .made))) (sym end)
-          ∙ all-placed (L .inv .1) (left-over (A .puts .now) (A .many) (L .k) (omega arith)),
+      ap (λ (i : ℕ). answered Accepted (allWith (A .first) (linesIn (A .w .now)) (allocationsIn (A .allocations .now) i)) (rulesOf (L .made))) (sym end)
+          ∙ all-placed (L .inv .1) (left-over (A .allocations .now) (A .many) (L .k) (omega arith)),
       Room-less (L .inv .1 .room) 1 (omega (arith, c .before .before .before .before .pre .2 .few)),
     )
 

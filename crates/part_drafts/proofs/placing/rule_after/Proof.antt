@@ -6,19 +6,19 @@ use borrow.Author.Needs.{needs}
 use Rattle.spec_plain.specs.Plain.{inOrder, usedFrom}
 use Rattle.spec_plain.specs.declared.Use.{Use}
 use Rattle.spec_plain.specs.declared.Rule.{Rule}
-use Rattle.part_lines.specs.Held.{maybeFrom}
+use Rattle.part_lines.specs.ArrayLists.{maybeFrom}
 use Rattle.part_lines.specs.Asked.{Short}
 use Rattle.part_lines.proofs.RuleLaws.{after-none, after-at}
 use Rattle.part_drafts.specs.Moment.{lineThen}
-use Rattle.part_putwords.proofs.Read.{used-short}
+use Rattle.part_allocations.proofs.Read.{used-short}
 use Rattle.part_drafts.proofs.placing.rule_after.Statement.{statement}
 use Rattle.part_drafts.proofs.placing.rule_after.Tie as tie
 
 returns : tie.Need-returns
 returns c =
     let A = c .before .before .before .before .before .args in
-    let l = lineThen (A .first) (A .w .now) (A .puts .now) (A .k) (A .put .resource) in
-    c .no-rule .ensures ∙ ap maybeFrom (after-none (A .settings) l (A .put .place) (usedFrom (A .first) (A .put)) (omega (arith, c .before .before .before .before .before .pre .1 .1, c .before .if1 .taken)))
+    let l = lineThen (A .first) (A .w .now) (A .allocations .now) (A .k) (A .allocation .resource) in
+    c .no-rule .ensures ∙ ap maybeFrom (after-none (A .settings) l (A .allocation .place) (usedFrom (A .first) (A .allocation)) (omega (arith, c .before .before .before .before .before .pre .1 .1, c .before .if1 .taken)))
 
 use-in-requires : tie.Need-use-in-requires
 use-in-requires c κs =
@@ -31,17 +31,17 @@ used-from-requires c κs = let p = c .before .before .before .before .before .pr
 in-order-requires : tie.Need-in-order-requires
 in-order-requires c κs =
     let A = c .before .before .before .before .before .before .args in
-    subst Short (sym (c .used-from .ensures)) (used-short (A .first) (A .put) (c .before .before .before .before .before .before .pre .0 .3))
+    subst Short (sym (c .used-from .ensures)) (used-short (A .first) (A .allocation) (c .before .before .before .before .before .before .pre .0 .3))
 
 returns-2 : tie.Need-returns-2
 returns-2 c =
     let A = c .before .before .before .before .before .before .before .before .args in
-    let l = lineThen (A .first) (A .w .now) (A .puts .now) (A .k) (A .put .resource) in
-    let u = usedFrom (A .first) (A .put) in
+    let l = lineThen (A .first) (A .w .now) (A .allocations .now) (A .k) (A .allocation .resource) in
+    let u = usedFrom (A .first) (A .allocation) in
     c .one-rule .ensures
     ∙ ap (λ (r : Rule). maybeFrom (r ∷ []))
     (c .before .in-order .ensures ∙ ap (λ (b : Use). inOrder (A .settings) b (c .before .before .before .use-in .result)) (c .before .before .used-from .ensures) ∙ ap (inOrder (A .settings) u) (c .before .before .before .use-in .ensures))
-    ∙ ap maybeFrom (after-at (A .settings) l (A .put .place) u (omega (arith, c .before .before .before .before .before .before .before .before .pre .1 .1)))
+    ∙ ap maybeFrom (after-at (A .settings) l (A .allocation .place) u (omega (arith, c .before .before .before .before .before .before .before .before .pre .1 .1)))
 
 pub rule-after-spec : {M : Type 1} → statement M
 rule-after-spec =

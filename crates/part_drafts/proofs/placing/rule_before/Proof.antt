@@ -7,7 +7,7 @@ use borrow.Author.Needs.{needs}
 use Rattle.spec_plain.specs.Plain.{inOrder, usedFrom}
 use Rattle.spec_plain.specs.declared.Use.{Use}
 use Rattle.spec_plain.specs.declared.Rule.{Rule}
-use Rattle.part_lines.specs.Held.{maybeFrom}
+use Rattle.part_lines.specs.ArrayLists.{maybeFrom}
 use Rattle.part_lines.specs.Asked.{Short}
 use Rattle.part_lines.proofs.RuleLaws.{before-none, before-at}
 use Rattle.part_drafts.specs.Moment.{lineThen}
@@ -18,8 +18,8 @@ use Rattle.part_drafts.proofs.placing.rule_before.Tie as tie
 returns : tie.Need-returns
 returns c =
     let A = c .before .before .before .before .before .args in
-    let l = lineThen (A .first) (A .w .now) (A .puts .now) (A .k) (A .put .resource) in
-    c .no-rule .ensures ∙ ap maybeFrom (before-none (A .settings) l (A .put .place) (usedFrom (A .first) (A .put)) (c .before .if1 .taken))
+    let l = lineThen (A .first) (A .w .now) (A .allocations .now) (A .k) (A .allocation .resource) in
+    c .no-rule .ensures ∙ ap maybeFrom (before-none (A .settings) l (A .allocation .place) (usedFrom (A .first) (A .allocation)) (c .before .if1 .taken))
 
 use-in-requires : tie.Need-use-in-requires
 use-in-requires c κs =
@@ -34,17 +34,17 @@ in-order-requires c κs =
     let A = c .before .before .before .before .before .before .args in
     let p = c .before .before .before .before .before .before .pre in
     subst Short (sym (c .before .use-in .ensures))
-    (then-short (A .first) (A .w .now) (A .puts .now) (p .0 .1) (A .k) (p .0 .2) (A .put .resource) (A .put .place - 1))
+    (then-short (A .first) (A .w .now) (A .allocations .now) (p .0 .1) (A .k) (p .0 .2) (A .allocation .resource) (A .allocation .place - 1))
 
 returns-2 : tie.Need-returns-2
 returns-2 c =
     let A = c .before .before .before .before .before .before .before .before .args in
-    let l = lineThen (A .first) (A .w .now) (A .puts .now) (A .k) (A .put .resource) in
-    let u = usedFrom (A .first) (A .put) in
+    let l = lineThen (A .first) (A .w .now) (A .allocations .now) (A .k) (A .allocation .resource) in
+    let u = usedFrom (A .first) (A .allocation) in
     c .one-rule .ensures
     ∙ ap (λ (r : Rule). maybeFrom (r ∷ []))
     (c .before .in-order .ensures ∙ ap (inOrder (A .settings) _) (c .before .before .used-from .ensures) ∙ ap (λ (b : Use). inOrder (A .settings) b u) (c .before .before .before .use-in .ensures))
-    ∙ ap maybeFrom (before-at (A .settings) l (A .put .place) (A .put .place - 1) u (omega arith))
+    ∙ ap maybeFrom (before-at (A .settings) l (A .allocation .place) (A .allocation .place - 1) u (omega arith))
 
 pub rule-before-spec : {M : Type 1} → statement M
 rule-before-spec =

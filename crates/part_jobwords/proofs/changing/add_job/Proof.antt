@@ -7,7 +7,7 @@ use Rattle.spec_plain.specs.declared.Job.{Job}
 use Rattle.spec_plain.specs.Plain.{newJob}
 use Rattle.part_boardwords.specs.Layout.{countAt, jobStart}
 use Rattle.part_boardwords.specs.Words.{wordIn}
-use Rattle.part_boardwords.specs.Codec.{jobWords, put}
+use Rattle.part_boardwords.specs.Codec.{jobWords, overwritten}
 use Rattle.part_jobwords.proofs.Fronts.{stored-length}
 use Rattle.part_jobwords.proofs.Changes.{add-front}
 use Rattle.part_jobwords.proofs.changing.add_job.Statement.{statement}
@@ -20,7 +20,7 @@ same-length : tie.Need-same-length
 same-length c =
     let cleared = c .before .before in
     let written = cleared .before .before .before .before in
-    omega (arith, stored-length (written .put-job .last .0) _ countAt _ _ _ (cleared .clear-jobs .ensures))
+    omega (arith, stored-length (written .write-job .last .0) _ countAt _ _ _ (cleared .clear-jobs .ensures))
 
 returns : tie.Need-returns
 returns c =
@@ -30,8 +30,8 @@ returns c =
     let entry = made .before .before .before .before in
     let A = entry .args in
     let W = A .w .now in
-    let is = written .put-job .ensures ∙ ap (λ (j : Job). put W (jobStart (wordIn W countAt)) (jobWords j)) (made .new-job .ensures) in
-    add-front W (written .put-job .last .0) _ (newJob (A .points) (A .batch)) (omega arith) (omega arith) (entry .pre .2) is (cleared .clear-jobs .ensures)
+    let is = written .write-job .ensures ∙ ap (λ (j : Job). overwritten W (jobStart (wordIn W countAt)) (jobWords j)) (made .new-job .ensures) in
+    add-front W (written .write-job .last .0) _ (newJob (A .points) (A .batch)) (omega arith) (omega arith) (entry .pre .2) is (cleared .clear-jobs .ensures)
 
 pub add-job-spec : {M : Type 1} → statement M
 add-job-spec =

@@ -4,8 +4,8 @@ use mathlib.Core.Path.{_≡_, refl, sym, subst}
 use native.Mathlib.Omega.{arith}
 use mathlib.Core.List.{List}
 use lib.ListN.{length}
-use Rattle.spec_plain.specs.Plain.{marked}
-use Rattle.part_lines.specs.Held.{jobsOf}
+use Rattle.spec_plain.specs.Plain.{sentUpTo}
+use Rattle.part_lines.specs.ArrayLists.{jobsOf}
 use Rattle.part_boardwords.specs.Layout.{clockAt}
 use Rattle.part_boardwords.specs.Words.{wordIn, heldJobs}
 use Rattle.part_jobwords.specs.Listed.{Listed}
@@ -15,7 +15,7 @@ use Rattle.part_jobwords.proofs.changing.set_marks.Statement.{statement
 use Rattle.part_jobwords.proofs.changing.set_marks.Tie as tie
 
 abbrev Inv-loop : tie.InvT-loop
-Inv-loop w₀ n k₀ w k = (k ≤ n) × Listed w₀ w (wordIn w₀ clockAt) (marked k (jobsOf (heldJobs (wordIn w₀)))) × (length w ≡ length w₀)
+Inv-loop w₀ n k₀ w k = (k ≤ n) × Listed w₀ w (wordIn w₀ clockAt) (sentUpTo k (jobsOf (heldJobs (wordIn w₀)))) × (length w ≡ length w₀)
 
 abbrev μ-loop : tie.MeasureT-loop
 μ-loop w₀ n k₀ w k = n - k
@@ -34,7 +34,7 @@ loop-again c =
     let js = jobsOf (heldJobs (wordIn W)) in
     let held = held-jobs (wordIn W) (omega arith) in
     let more = sent-more W (L .w) _ (L .k) js (omega arith) (omega (arith, held)) (L .inv .1) in
-    let next = subst (λ (x : List ℕ). Listed W x (wordIn W clockAt) (marked (L .k + 1) js)) (sym (stored .put-sent .ensures)) more in
+    let next = subst (λ (x : List ℕ). Listed W x (wordIn W clockAt) (sentUpTo (L .k + 1) js)) (sym (stored .write-sent .ensures)) more in
     (omega arith, next, omega arith)
 
 returns : tie.Need-returns Inv-loop μ-loop

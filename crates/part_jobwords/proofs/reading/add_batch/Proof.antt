@@ -1,7 +1,7 @@
 -- `add_batch` meets its contract: the rule (e) is stored at the count, if there is one.
 use Prim.Native.Nat.{ℕ}
 use Rattle.spec_plain.specs.Plain.{trayGap, batchRules}
-use Rattle.part_lines.specs.Held.{jobsOf, maybeFrom}
+use Rattle.part_lines.specs.ArrayLists.{jobsOf, maybeFrom}
 use Rattle.part_lines.specs.declared.rulelist.Maybe.{Maybe}
 use Rattle.part_lines.proofs.RuleLaws.{stored, batch-few}
 use Rattle.part_boardwords.specs.Words.{wordIn, heldJobs}

@@ -1,5 +1,5 @@
 -- `batch_rule` meets its contract: no batch, a batch that no live job has, or the rule with the newest job of the batch.
-use Rattle.part_lines.specs.Held.{jobsOf, maybeFrom}
+use Rattle.part_lines.specs.ArrayLists.{jobsOf, maybeFrom}
 use Rattle.part_lines.proofs.RuleLaws.{end-none, end-at, batch-none, batch-some}
 use Rattle.part_boardwords.specs.Words.{wordIn, heldJobs}
 use mathlib.Core.Path.{_∙_, ap}

@@ -1,7 +1,7 @@
 -- `is_full` meets its contract: with 16 jobs the first half of 14 holds, with fewer the second decides.
 use lib.Dec.{ltb}
 use Rattle.spec_plain.specs.Limits.{mostPoints}
-use Rattle.part_lines.specs.Held.{jobsOf}
+use Rattle.part_lines.specs.ArrayLists.{jobsOf}
 use Rattle.part_lines.proofs.JobLaws.{full-jobs, full-points}
 use Rattle.part_boardwords.specs.Words.{wordIn, heldJobs}
 use Rattle.part_boardwords.proofs.Boards.{held-jobs}

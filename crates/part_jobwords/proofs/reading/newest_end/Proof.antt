@@ -4,7 +4,7 @@ use mathlib.Core.List.{List}
 use lib.ListN.{drop}
 use Rattle.spec_plain.specs.declared.Job.{Job}
 use Rattle.spec_plain.specs.Plain.{afterNewest, total}
-use Rattle.part_lines.specs.Held.{jobsOf}
+use Rattle.part_lines.specs.ArrayLists.{jobsOf}
 use Rattle.part_lines.proofs.RuleLaws.{search-from, newest-start, newest-next, newest-over}
 use Rattle.part_boardwords.specs.Words.{wordIn, heldJobs}
 use Rattle.part_boardwords.proofs.Boards.{job-next, job-over}

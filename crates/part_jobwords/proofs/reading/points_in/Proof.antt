@@ -6,7 +6,7 @@ use native.Mathlib.Omega.{arith}
 use lib.ListN.{drop}
 use Rattle.base_lists.specs.All.{All}
 use Rattle.spec_plain.specs.Plain.{total}
-use Rattle.part_lines.specs.Held.{jobsOf}
+use Rattle.part_lines.specs.ArrayLists.{jobsOf}
 use Rattle.part_boardwords.specs.Words.{wordIn, heldJobs}
 use Rattle.part_boardwords.proofs.Boards.{job-next, job-over}
 use Rattle.part_jobwords.specs.Counted.{FewPoints}

@@ -3,7 +3,7 @@ use mathlib.Core.List.{[], _∷_}
 use mathlib.Core.Bool.{Bool}
 use mathlib.Core.Path.{sym, _∙_, ap}
 use borrow.Author.Needs.{needs}
-use Rattle.part_lines.specs.Held.{maybeFrom}
+use Rattle.part_lines.specs.ArrayLists.{maybeFrom}
 use Rattle.spec_plain.specs.declared.Rule.{Rule}
 use Rattle.part_lines.proofs.RuleLaws.{startRule}
 use Rattle.part_jobwords.proofs.reading.start_rule.Statement.{statement}

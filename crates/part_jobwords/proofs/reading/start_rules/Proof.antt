@@ -4,7 +4,7 @@ use mathlib.Core.List.{List, [], _++_}
 use lib.ListN.{drop, length, length-set}
 use Rattle.spec_plain.specs.declared.Rule.{Rule}
 use Rattle.spec_plain.specs.Plain.{starts, total}
-use Rattle.part_lines.specs.Held.{jobsOf, noRule, mostRules}
+use Rattle.part_lines.specs.ArrayLists.{jobsOf, noRule, mostRules}
 use Rattle.part_lines.specs.declared.rulelist.Maybe.{Maybe}
 use Rattle.part_lines.specs.declared.rulelist.Rules.{Rules}
 use Rattle.part_lines.proofs.Padded.{length-padded}

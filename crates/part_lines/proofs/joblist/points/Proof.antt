@@ -6,7 +6,7 @@ use native.Mathlib.Omega.{arith}
 use borrow.Author.Needs.{needs}
 use Rattle.spec_plain.specs.Limits.{mostJobs}
 use Rattle.spec_plain.specs.Plain.{total}
-use Rattle.part_lines.specs.Held.{jobsOf, noJob}
+use Rattle.part_lines.specs.ArrayLists.{jobsOf, noJob}
 use Rattle.part_lines.proofs.Lists.{held-next, held-over, length-mapped}
 use Rattle.part_lines.proofs.joblist.points.Statement.{statement}
 use Rattle.part_lines.proofs.joblist.points.Tie as tie

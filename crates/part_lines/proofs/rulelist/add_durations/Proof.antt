@@ -9,7 +9,7 @@ use native.Mathlib.Omega.{arith}
 use borrow.Author.Needs.{needs}
 use Rattle.spec_plain.specs.Limits.{mostSteps}
 use Rattle.spec_plain.specs.Plain.{durations}
-use Rattle.part_lines.specs.Held.{rulesOf, stepsOf, noStep, mostRules}
+use Rattle.part_lines.specs.ArrayLists.{rulesOf, stepsOf, noStep, mostRules}
 use Rattle.part_lines.proofs.Lists.{held-next, held-over, length-mapped}
 use Rattle.part_lines.proofs.RuleLaws.{Growing, grows, grown, Room-less, durations-next, durations-two, durations-stored}
 use Rattle.part_lines.proofs.rulelist.add_durations.Statement.{statement}

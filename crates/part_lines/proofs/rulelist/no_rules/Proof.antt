@@ -3,7 +3,7 @@ use lib.ListN.{replicate}
 use mathlib.Core.List.{List}
 use mathlib.Core.Path.{ap, _∙_}
 use borrow.Author.Needs.{needs}
-use Rattle.part_lines.specs.Held.{noRule, mostRules}
+use Rattle.part_lines.specs.ArrayLists.{noRule, mostRules}
 use Rattle.spec_plain.specs.declared.Rule.{Rule}
 use Rattle.part_lines.specs.declared.rulelist.Maybe.{Maybe}
 use Rattle.part_lines.specs.declared.rulelist.Rules.{Rules}

@@ -21,7 +21,7 @@ returns c =
     let W = A .w .now in
     let n = wordIn W (A .at) in
     let up = moved .move-uses-up .ensures in
-    let there = stored .put-use .ensures in (
+    let there = stored .write-use .ensures in (
       line-inserted W _ _ (A .at) (A .place) n (A .u) (p .0 .0) (p .0 .1) (p .0 .2) up there refl (p .1),
       beside-line W _ _ (A .at) (A .place) n (A .u) (p .0 .0) (p .0 .1) (p .0 .2) up there,
     )

@@ -43,9 +43,9 @@ loop-again c =
     let L = turn .loop in
     let u = read .use-at .result in
     let next =
-    thin-more (A .f) (A .m) (A .w .now) (A .at) (L .w) (written .put-use .last .0) (L .next) (L .k) u (stayed .stay-use .result)
+    thin-more (A .f) (A .m) (A .w .now) (A .at) (L .w) (written .write-use .last .0) (L .next) (L .k) u (stayed .stay-use .result)
     (c .stay-count .result) (omega arith) (omega arith) (L .inv .1) (L .inv .2) (read .use-at .ensures) (stayed .stay-use .ensures)
-    (c .stay-count .ensures) (written .put-use .ensures) in (
+    (c .stay-count .ensures) (written .write-use .ensures) in (
       omega arith,
       next .0,
       next .1,

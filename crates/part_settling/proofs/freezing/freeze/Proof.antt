@@ -6,7 +6,7 @@ use lib.ListN.{drop, length}
 use borrow.Author.Needs.{needs}
 use Rattle.spec_plain.specs.Limits.{mostJobs}
 use Rattle.spec_plain.specs.Plain.{total, unsentPoints}
-use Rattle.part_lines.specs.Held.{jobsOf, noJob}
+use Rattle.part_lines.specs.ArrayLists.{jobsOf, noJob}
 use Rattle.part_lines.proofs.Lists.{held-next, length-mapped}
 use Rattle.spec_plain.proofs.Points.{unsent-below}
 use Rattle.part_settling.proofs.Frozen.{Freezing, begins, goes-on, ends, unsent-first, unsent-next, unsent-over}

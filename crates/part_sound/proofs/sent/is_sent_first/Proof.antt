@@ -4,7 +4,7 @@ use mathlib.Core.Bool.{true, _&&_}
 use mathlib.Core.Path.{_≡_, refl}
 use native.Mathlib.Omega.{arith}
 use lib.ListN.{drop}
-use Rattle.part_lines.specs.Held.{jobsOf}
+use Rattle.part_lines.specs.ArrayLists.{jobsOf}
 use Rattle.part_boardwords.specs.Words.{wordIn, heldJobs}
 use Rattle.part_sound.specs.Sound.{sentFrom}
 use Rattle.part_sound.proofs.Flags.{flag-next, flag-end}

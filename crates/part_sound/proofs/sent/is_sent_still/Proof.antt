@@ -6,7 +6,7 @@ use mathlib.Core.Path.{_≡_, refl, ap}
 use native.Mathlib.Omega.{arith}
 use lib.ListN.{drop}
 use Rattle.spec_plain.specs.Plain.{total}
-use Rattle.part_lines.specs.Held.{jobsOf}
+use Rattle.part_lines.specs.ArrayLists.{jobsOf}
 use Rattle.part_boardwords.specs.Words.{wordIn, heldJobs}
 use Rattle.part_sound.specs.Sound.{stillSent}
 use Rattle.part_sound.proofs.Flags.{flag-next, flag-end}
