@@ -2,7 +2,7 @@
 -- is refused here. Assumes nothing.
 --   plant-length, offer-length    the bytes are as many as document 01 says
 --   Computes, AllCompute          what is computed of a case, of each of a list
---   computed, further-computed    both tables compute;  shownOpen: the definitions to unfold for it
+--   computed, further-computed    both tables compute;  drafts-computed: the table of limits;  shownOpen: the definitions to unfold for it
 use mathlib.Core.Path.{_≡_, refl}
 use mathlib.Core.Bool.{true}
 use mathlib.Core.List.{List, [], _∷_}
@@ -15,7 +15,8 @@ use Rattle.theorem_demands.specs.Tidy as Tidy
 use Rattle.theorem_demands.specs.Cases.{Case}
 use Rattle.base_lists.specs.Loops.{allBelow}
 use Rattle.theorem_demands.specs.Shown.{isAccepted, kindOf, sameRuling, sameRulings, readable, sameCells, sameBoards, shown, allShown}
-use Rattle.theorem_demands.specs.ProvingTable.{plant, jobJ, table, furtherTable}
+use Rattle.theorem_demands.specs.ProvingTable.{plant, jobJ, table}
+use Rattle.theorem_demands.specs.FurtherTable.{furtherTable, AllDraft, draftTable}
 use Rattle.theorem_demands.proofs.Computing.{computing}
 
 -- the bytes are as many as document 01 says
@@ -49,4 +50,8 @@ computed =
 pub further-computed : AllCompute furtherTable
 unfolding computing shownOpen trailingZeros
 further-computed =
-    ((refl, refl, refl), ((refl, refl, refl), ((refl, refl, refl), ((refl, refl, refl), ((refl, refl, refl), ((refl, refl, refl), ((refl, refl, refl), ((refl, refl, refl), ((refl, refl, refl), ((refl, refl, refl), tt))))))))))
+    ((refl, refl, refl), ((refl, refl, refl), ((refl, refl, refl), ((refl, refl, refl), ((refl, refl, refl), ((refl, refl, refl), ((refl, refl, refl), ((refl, refl, refl), ((refl, refl, refl), ((refl, refl, refl), ((refl, refl, refl), ((refl, refl, refl), ((refl, refl, refl), ((refl, refl, refl), ((refl, refl, refl), ((refl, refl, refl), ((refl, refl, refl), ((refl, refl, refl), tt))))))))))))))))))
+
+pub drafts-computed : AllDraft draftTable
+unfolding computing
+drafts-computed = (refl, (refl, (refl, (refl, (refl, (refl, (refl, (refl, (refl, tt)))))))))

@@ -9,7 +9,8 @@ use Rattle.spec_rulebook.specs.Book.{Book}
 use Rattle.theorem_demands.specs.Model as Model
 use Rattle.theorem_demands.specs.Tidy as Tidy
 use Rattle.theorem_demands.specs.Cases.{Case, AllMeet, Comes, AllCome}
-use Rattle.theorem_demands.specs.ProvingTable.{table, furtherTable}
+use Rattle.theorem_demands.specs.ProvingTable.{table}
+use Rattle.theorem_demands.specs.FurtherTable.{furtherTable}
 use Rattle.theorem_demands.proofs.Tidy.{fresh-runs}
 use Rattle.theorem_demands.proofs.Shown.{all-meet}
 use Rattle.theorem_demands.proofs.Computed.{Computes, AllCompute, computed, further-computed}

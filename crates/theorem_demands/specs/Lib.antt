@@ -4,4 +4,5 @@ pub mod Tidy
 pub mod Sent
 pub mod Cases
 pub mod ProvingTable
+pub mod FurtherTable
 pub mod Shown

@@ -3,8 +3,7 @@
 --                 1 false, 5 to 5. A2 needs 3, makes none, 1 to 1. It has 120 bytes, index at 96."
 --   jobJ b place  "Job J: fact 0 known true, goal fact 2 true, A0 A1", in batch b, with this place
 --   settingsFrom  a board's H and D;  usual: a case on the usual board
---   table         document 01's cases
---   furtherTable  cases of our own, for what those do not show
+--   table         document 01's cases; cases of our own, for what those do not show: FurtherTable
 -- Point 0 is the origin; where the first job is J, its points are 1, 2, 3, and the second job's start is 4.
 use mathlib.Core.List.{List, [], _∷_, _++_}
 use Prim.Native.Nat.{ℕ, _/_, _%_}
@@ -70,15 +69,15 @@ abbrev pub offerM : ℕ → List ℕ
 offerM b = u32s (b ∷ fact3 ∷ 0 ∷ fact3 ∷ 0 ∷ 1 ∷ []) ++ u32s (2 ∷ [])
 
 -- a board's H and D
-abbrev settingsFrom : ℕ → ℕ → Settings
+abbrev pub settingsFrom : ℕ → ℕ → Settings
 settingsFrom H D = record { horizon = H; lead = D }
 
 -- "H = 1000, D = 5 unless said"
-abbrev usual : List Call → List Ruling → List Expect → Case
+abbrev pub usual : List Call → List Ruling → List Expect → Case
 usual cs rs xs = record { settings = settingsFrom 1000 5; calls = cs; rulings = rs; expects = xs }
 
 -- J, placed first in its line
-abbrev J : Call
+abbrev pub J : Call
 J = plan plant (jobJ 0 0)
 
 abbrev pub table : List Case
@@ -110,44 +109,4 @@ table =
     ∷ usual (plan plant (jobJ 7 0) ∷ plan plant (offerM 7) ∷ []) (Accepted ∷ Accepted ∷ []) (earliest 4 19 ∷ earliest 5 20 ∷ [])
     -- n: D = 5 at clock 0 and D = 0 at clock 5, then J: equal tables
     ∷ usual (J ∷ []) (Accepted ∷ []) (same (settingsFrom 1000 0) (clock 5 ∷ J ∷ []) (Accepted ∷ Accepted ∷ []) ∷ [])
-    ∷ []
-
--- ---- cases of our own
-
--- a plant of one action, whose record has these durations and n allocations, and ends at `index`
-abbrev onePlant : ℕ → ℕ → List ℕ → ℕ → List ℕ
-onePlant long n allocations index =
-    u32s (0 ∷ 0 ∷ 0 ∷ 0 ∷ long ∷ long ∷ []) ++ (n ∷ 0 ∷ 0 ∷ 0 ∷ []) ++ u32s allocations
-    ++ u32s (0 ∷ []) ++ u32s (index ∷ 1 ∷ []) ++ (0x50 ∷ 0x4C ∷ 0x4E ∷ 0x54 ∷ [])
-
--- an offer of that action, with these places
-abbrev oneOffer : List ℕ → List ℕ
-oneOffer places = u32s (0 ∷ 0 ∷ 0 ∷ 0 ∷ 0 ∷ 1 ∷ []) ++ u32s (0 ∷ []) ++ u32s places
-
--- 40 ms, with two uses of resource 0: 0 to 10 and 20 to 30
-abbrev pub plantTwice : List ℕ
-plantTwice = onePlant 40 2 (0 ∷ 0 ∷ 10 ∷ 0 ∷ 20 ∷ 10 ∷ []) 52
-
--- 1 ms, with a use of resource 0 that outlasts it: 0 to 30
-abbrev pub plantLong : List ℕ
-plantLong = onePlant 1 1 (0 ∷ 0 ∷ 30 ∷ []) 40
-
-abbrev pub furtherTable : List Case
-furtherTable =
-    -- a place counts the offer's own earlier allocations: the second goes behind the first, and no further
-    usual (plan plantTwice (oneOffer (0 ∷ 1 ∷ [])) ∷ []) (Accepted ∷ []) []
-    ∷ usual (plan plantTwice (oneOffer (0 ∷ 2 ∷ [])) ∷ []) (refused 15 1 ∷ []) []
-    -- put before the first it would have to end before it starts: a rule of a point with itself, and false
-    ∷ usual (plan plantTwice (oneOffer (0 ∷ 0 ∷ [])) ∷ []) (refuse 17 ∷ []) []
-    -- rule (e) goes by the newest job of the batch: A2 ends at 6, J at 20, and the next A2 no earlier than J
-    ∷ usual (plan plant (offerM 7) ∷ plan plant (jobJ 7 0) ∷ plan plant (offerM 7) ∷ []) (Accepted ∷ Accepted ∷ Accepted ∷ []) (earliest 2 6 ∷ earliest 5 20 ∷ earliest 7 20 ∷ [])
-    -- an allocation that outlasts its step: the last point is at 6, and the job retires at 35
-    ∷ usual (plan plantLong (oneOffer (0 ∷ [])) ∷ send 0 ∷ clock 34 ∷ retire ∷ []) (Accepted ∷ Accepted ∷ Accepted ∷ refuse 21 ∷ []) []
-    ∷ usual (plan plantLong (oneOffer (0 ∷ [])) ∷ send 0 ∷ clock 35 ∷ retire ∷ []) (Accepted ∷ Accepted ∷ Accepted ∷ Accepted ∷ []) []
-    -- a retired job's effect stays: the second job, behind the first in the line, starts at 35 as before
-    ∷ usual (plan plantLong (oneOffer (0 ∷ [])) ∷ plan plantLong (oneOffer (1 ∷ [])) ∷ send 0 ∷ clock 30 ∷ []) (Accepted ∷ Accepted ∷ Accepted ∷ Accepted ∷ []) (earliest 3 35 ∷ [])
-    ∷ usual (plan plantLong (oneOffer (0 ∷ [])) ∷ plan plantLong (oneOffer (1 ∷ [])) ∷ send 1 ∷ clock 35 ∷ retire ∷ []) (Accepted ∷ Accepted ∷ Accepted ∷ Accepted ∷ Accepted ∷ []) (earliest 1 35 ∷ latest 1 35 ∷ [])
-    -- 18 past the list and of a sent job; 19 back and past H; a job that is not sent stays
-    ∷ usual (J ∷ send 1 ∷ send 0 ∷ send 0 ∷ clock 5 ∷ clock 4 ∷ clock 1001 ∷ []) (Accepted ∷ refuse 18 ∷ Accepted ∷ refuse 18 ∷ Accepted ∷ refuse 19 ∷ refuse 19 ∷ []) []
-    ∷ usual (retire ∷ J ∷ retire ∷ []) (refuse 21 ∷ Accepted ∷ refuse 21 ∷ []) []
     ∷ []

@@ -1,0 +1,168 @@
+-- Cases of our own in the form of the proving table, for what document 01's cases do not show.
+--   action t n us       the record of an action without facts, of t ms and with the n allocations us
+--   plantOne, plantTwo  the plant file of one such action, of two
+--   offer b n ws        an offer without facts in batch b, of n steps that ws spells: an action and its places for each
+--   twice, long         plants of one action each
+--   pair                a plant of two actions: 0 moves, 10 ms without a use; 1 turns, 5 ms that use resource 1
+--   moves, turns p      plans of each alone, with the place of the turn
+--   times n x           x, n times over
+--   furtherTable        the cases, by what they are about
+--   DraftCase           a state, an offer on it, and what the plain machine says of it before timetables are looked at;  Drafts: it does
+--   draftTable          limits that take more jobs or uses to reach than a run can compute
+-- Point 0 is the origin; where the first job is J, its points are 1, 2, 3, and the second job's start is 4.
+use mathlib.Core.Path.{_≡_}
+use mathlib.Core.List.{List, [], _∷_, _++_, map}
+use Prim.Native.Nat.{ℕ, zero, suc, _+_}
+use lib.ListN.{length}
+use Rattle.base_rulings.specs.declared.Ruling.{Ruling}
+use Rattle.base_rulings.specs.declared.Ruling.the-variants.{Accepted, Refused}
+use Rattle.base_rulings.specs.Answer.{refuse, refused}
+use Rattle.spec_plain.specs.declared.Allocation.{Allocation}
+use Rattle.spec_plain.specs.Plain.{State, Offer, Draft, newJob, drafted}
+use Rattle.spec_rulebook.specs.Book.{Call, plan, send, clock, retire}
+use Rattle.theorem_demands.specs.Cases.{Expect, earliest, latest, Case}
+use Rattle.theorem_demands.specs.ProvingTable.{u32s, plant, jobJ, offerM, usual, J}
+
+-- ---- plants and offers
+
+abbrev pub action : ℕ → ℕ → List ℕ → List ℕ
+action t n us = u32s (0 ∷ 0 ∷ 0 ∷ 0 ∷ t ∷ t ∷ []) ++ (n ∷ 0 ∷ 0 ∷ 0 ∷ []) ++ u32s us
+
+abbrev mark : List ℕ
+mark = 0x50 ∷ 0x4C ∷ 0x4E ∷ 0x54 ∷ []
+
+abbrev pub plantOne : List ℕ → List ℕ
+plantOne a = a ++ u32s (0 ∷ []) ++ u32s (length a ∷ 1 ∷ []) ++ mark
+
+abbrev pub plantTwo : List ℕ → List ℕ → List ℕ
+plantTwo a b = a ++ b ++ u32s (0 ∷ length a ∷ []) ++ u32s ((length a + length b) ∷ 2 ∷ []) ++ mark
+
+abbrev pub offer : ℕ → ℕ → List ℕ → List ℕ
+offer b n ws = u32s (b ∷ 0 ∷ 0 ∷ 0 ∷ 0 ∷ n ∷ []) ++ u32s ws
+
+-- 40 ms, with two uses of resource 0: 0 to 10 and 20 to 30
+abbrev pub twice : List ℕ
+twice = plantOne (action 40 2 (0 ∷ 0 ∷ 10 ∷ 0 ∷ 20 ∷ 10 ∷ []))
+
+-- 1 ms, with a use of resource 0 that outlasts it: 0 to 30
+abbrev pub long : List ℕ
+long = plantOne (action 1 1 (0 ∷ 0 ∷ 30 ∷ []))
+
+abbrev pub pair : List ℕ
+pair = plantTwo (action 10 0 []) (action 5 1 (1 ∷ 0 ∷ 5 ∷ []))
+
+abbrev pub turns : ℕ → Call
+turns p = plan pair (offer 0 1 (1 ∷ p ∷ []))
+
+-- one step that uses nothing: two points
+abbrev pub moves : Call
+moves = plan pair (offer 0 1 (0 ∷ []))
+
+abbrev pub times : {A : Type 0} → ℕ → A → List A
+times zero x = []
+times (suc n) x = x ∷ times n x
+
+-- ---- the cases
+
+abbrev pub places : List Case
+places =
+    -- a place counts the offer's own earlier allocations: the second goes behind the first, and no further
+    usual (plan twice (offer 0 1 (0 ∷ 0 ∷ 1 ∷ [])) ∷ []) (Accepted ∷ []) []
+    ∷ usual (plan twice (offer 0 1 (0 ∷ 0 ∷ 2 ∷ [])) ∷ []) (refused 15 1 ∷ []) []
+    -- put before the first it would have to end before it starts: a rule of a point with itself, and false
+    ∷ usual (plan twice (offer 0 1 (0 ∷ 0 ∷ 0 ∷ [])) ∷ []) (refuse 17 ∷ []) []
+    -- each step has places of its own
+    ∷ usual (plan pair (offer 0 2 (1 ∷ 0 ∷ 1 ∷ 1 ∷ [])) ∷ []) (Accepted ∷ []) []
+    -- each resource has a line of its own: J stands in that of resource 0, and there is no place 1 in the other
+    ∷ usual (J ∷ turns 1 ∷ turns 0 ∷ []) (Accepted ∷ refused 15 0 ∷ Accepted ∷ []) (earliest 4 5 ∷ [])
+    -- a use hangs on its own step's start: the first job turns from 15 to 20, and the second then
+    ∷ usual (plan pair (offer 0 2 (0 ∷ 1 ∷ 0 ∷ [])) ∷ turns 1 ∷ []) (Accepted ∷ Accepted ∷ []) (earliest 4 20 ∷ [])
+    ∷ []
+
+abbrev pub batches : List Case
+batches =
+    -- rule (e) goes by the newest job of the batch: A2 ends at 6, J at 20, and the next A2 no earlier than J
+    usual (plan plant (offerM 7) ∷ plan plant (jobJ 7 0) ∷ plan plant (offerM 7) ∷ []) (Accepted ∷ Accepted ∷ Accepted ∷ [])
+        (earliest 2 6 ∷ earliest 5 20 ∷ earliest 7 20 ∷ [])
+    -- by a sent one too
+    ∷ usual (plan plant (jobJ 7 0) ∷ send 0 ∷ plan plant (offerM 7) ∷ []) (Accepted ∷ Accepted ∷ Accepted ∷ []) (earliest 5 20 ∷ [])
+    -- 0 is no batch, and 9 is one; another batch is another batch, by its high bits too
+    ∷ usual (plan plant (jobJ 0 0) ∷ plan plant (offerM 0) ∷ []) (Accepted ∷ Accepted ∷ []) (earliest 5 6 ∷ [])
+    ∷ usual (plan plant (jobJ 9 0) ∷ plan plant (offerM 9) ∷ []) (Accepted ∷ Accepted ∷ []) (earliest 5 20 ∷ [])
+    ∷ usual (plan plant (jobJ 7 0) ∷ plan plant (offerM 8) ∷ plan plant (offerM 16777223) ∷ []) (Accepted ∷ Accepted ∷ Accepted ∷ [])
+        (earliest 5 6 ∷ earliest 7 6 ∷ [])
+    ∷ []
+
+-- 14: sixteen jobs, and no more
+abbrev pub capacities : List Case
+capacities = usual (times 17 moves) (times 16 Accepted ++ (refuse 14 ∷ [])) [] ∷ []
+
+abbrev pub dispatching : List Case
+dispatching =
+    -- an allocation that outlasts its step: the last point is at 6, and the job retires at 35
+    usual (plan long (offer 0 1 (0 ∷ 0 ∷ [])) ∷ send 0 ∷ clock 34 ∷ retire ∷ []) (Accepted ∷ Accepted ∷ Accepted ∷ refuse 21 ∷ []) []
+    ∷ usual (plan long (offer 0 1 (0 ∷ 0 ∷ [])) ∷ send 0 ∷ clock 35 ∷ retire ∷ []) (Accepted ∷ Accepted ∷ Accepted ∷ Accepted ∷ []) []
+    -- a retired job's effect stays: the second job, behind the first in the line, starts at 35 as before
+    ∷ usual (plan long (offer 0 1 (0 ∷ 0 ∷ [])) ∷ plan long (offer 0 1 (0 ∷ 1 ∷ [])) ∷ send 0 ∷ clock 30 ∷ []) (times 4 Accepted) (earliest 3 35 ∷ [])
+    ∷ usual (plan long (offer 0 1 (0 ∷ 0 ∷ [])) ∷ plan long (offer 0 1 (0 ∷ 1 ∷ [])) ∷ send 1 ∷ clock 35 ∷ retire ∷ []) (times 5 Accepted)
+        (earliest 1 35 ∷ latest 1 35 ∷ [])
+    -- 18 past the list and of a sent job; 19 back and past H; a job that is not sent stays
+    ∷ usual (J ∷ send 1 ∷ send 0 ∷ send 0 ∷ clock 5 ∷ clock 4 ∷ clock 1001 ∷ [])
+        (Accepted ∷ refuse 18 ∷ Accepted ∷ refuse 18 ∷ Accepted ∷ refuse 19 ∷ refuse 19 ∷ []) []
+    ∷ usual (retire ∷ J ∷ retire ∷ []) (refuse 21 ∷ Accepted ∷ refuse 21 ∷ []) []
+    ∷ []
+
+abbrev pub furtherTable : List Case
+furtherTable = places ++ batches ++ capacities ++ dispatching
+
+-- ---- limits
+
+pub record DraftCase : Type 0 where
+  pub state : State
+  pub offer : Offer
+  pub ruling : Ruling
+
+abbrev draftRuling : Draft → Ruling
+draftRuling (Draft.stop c) = Refused c
+draftRuling (Draft.go s n rs) = Accepted
+
+abbrev pub Drafts : DraftCase → Type 0
+Drafts c = draftRuling (drafted (c .state) (c .offer)) ≡ c .ruling
+
+abbrev pub AllDraft : List DraftCase → Type 0
+AllDraft [] = Unit {0}
+AllDraft (c ∷ cs) = Drafts c × AllDraft cs
+
+-- jobs of so many points, and a line of resource 0 that holds so many uses
+abbrev stateWith : List ℕ → ℕ → State
+stateWith points uses =
+    record {
+      jobs = map (λ (n : ℕ). newJob n 0) points;
+      lines = times uses (record { point = 1; offset = 0; length = 1 }) ∷ times 15 [];
+      clock = 0;
+      settings = record { horizon = 1000; lead = 5 };
+    }
+
+-- one step, with these allocations
+abbrev offerWith : List Allocation → Offer
+offerWith ps = record { batch = 0; steps = record { shortest = 1; longest = 1 } ∷ []; allocations = ps }
+
+abbrev placedAt : ℕ → Allocation
+placedAt p = record { resource = 0; place = p; step = 0; offset = 0; length = 1 }
+
+abbrev pub draftTable : List DraftCase
+draftTable =
+    -- 14: 62 points and 2 are 64, 63 and 2 are not; sixteen jobs are too many whatever their points
+    record { state = stateWith (times 6 9 ++ times 4 2) 0; offer = offerWith []; ruling = Accepted }
+    ∷ record { state = stateWith (times 7 9) 0; offer = offerWith []; ruling = refuse 14 }
+    ∷ record { state = stateWith (times 15 2) 0; offer = offerWith []; ruling = Accepted }
+    ∷ record { state = stateWith (times 16 2) 0; offer = offerWith []; ruling = refuse 14 }
+    -- 14 comes before 15
+    ∷ record { state = stateWith (times 16 2) 0; offer = offerWith (placedAt 1 ∷ []); ruling = refuse 14 }
+    -- 16: a line holds 32; the offer's own count
+    ∷ record { state = stateWith (2 ∷ []) 31; offer = offerWith (placedAt 31 ∷ []); ruling = Accepted }
+    ∷ record { state = stateWith (2 ∷ []) 31; offer = offerWith (placedAt 0 ∷ placedAt 0 ∷ []); ruling = refused 16 1 }
+    ∷ record { state = stateWith (2 ∷ []) 32; offer = offerWith (placedAt 32 ∷ []); ruling = refused 16 0 }
+    -- 15 comes before 16
+    ∷ record { state = stateWith (2 ∷ []) 32; offer = offerWith (placedAt 33 ∷ []); ruling = refused 15 0 }
+    ∷ []
