@@ -5,6 +5,7 @@
 use base_rulings::Cause;
 use base_rulings::Ruling;
 use base_words::u32_at;
+use part_allocations::ALLOCATIONS_SIZE;
 use part_boardwords::layout;
 use part_boardwords::settings_in;
 use part_drafts::draft;
@@ -13,9 +14,8 @@ use part_jobwords::points_in;
 use part_lines::Steps;
 use part_linewords::insert_all;
 use part_linewords::tidy_lines;
-use part_offered::read_durations;
 use part_offered::read_allocations;
-use part_allocations::ALLOCATIONS_SIZE;
+use part_offered::read_durations;
 use part_settling::try_grown;
 use part_sound::is_sound;
 use read_offer::check_chain;

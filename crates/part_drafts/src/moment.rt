@@ -12,10 +12,10 @@ ghost use Rattle.part_lines.specs.Placing.{AllFit};
 ghost use Rattle.part_boardwords.specs.Layout.{cellsAt};
 ghost use Rattle.part_boardwords.specs.Words.{wordIn, linesRead, linesIn};
 ghost use Rattle.part_drafts.specs.Moment.{lineThen};
-use part_boardwords::line_start;
-use part_boardwords::use_at;
 use part_allocations::read_allocation;
 use part_allocations::used_from;
+use part_boardwords::line_start;
+use part_boardwords::use_at;
 use spec_plain::Use;
 
 // How many uses the line of a resource holds once the first k allocations are put in.
@@ -35,7 +35,14 @@ pub fn number_in(w: &[u32], allocations: &[u32], k: usize, resource: u32) -> usi
 
 // The use at a place of the line once the first k allocations are put in. They are looked through from the last one on: it is one of them, or where
 // one went in before it, it stood one place lower until then.
-pub fn use_in(w: &[u32], first: u32, allocations: &[u32], k: usize, resource: u32, place: usize) -> Use
+pub fn use_in(
+    w: &[u32],
+    first: u32,
+    allocations: &[u32],
+    k: usize,
+    resource: u32,
+    place: usize,
+) -> Use
     requires { ⌜ (cellsAt ≤ length (now w)) × Lined (linesRead (wordIn (now w))) × ReadAllocations (now allocations) k × (resource < resources) × (first ≤ mostPoints) ⌝ }
     requires { ⌜ AllFit first (linesIn (now w)) (allocationsIn (now allocations) k) × (place < length (lineThen first (now w) (now allocations) k resource)) ⌝ }
     ensures { λ r. ⌜ r ≡ getD (lineThen first (now (w .entry)) (now (allocations .entry)) k resource) place noUse ⌝ }

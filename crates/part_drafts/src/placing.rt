@@ -18,13 +18,13 @@ use crate::moment::number_in;
 use crate::moment::use_in;
 use base_rulings::Cause;
 use base_rulings::Ruling;
+use part_allocations::read_allocation;
+use part_allocations::used_from;
 use part_lines::Maybe;
 use part_lines::Rules;
 use part_lines::in_order;
 use part_lines::no_rule;
 use part_lines::one_rule;
-use part_allocations::read_allocation;
-use part_allocations::used_from;
 use spec_plain::Allocation;
 use spec_plain::Settings;
 use spec_plain::limits;
@@ -43,7 +43,14 @@ pub struct Placement {
 }
 
 // The rule with the use just before an allocation, if there is one, once the first k allocations are put in.
-fn rule_before(w: &[u32], settings: Settings, first: u32, allocations: &[u32], k: usize, allocation: Allocation) -> Maybe
+fn rule_before(
+    w: &[u32],
+    settings: Settings,
+    first: u32,
+    allocations: &[u32],
+    k: usize,
+    allocation: Allocation,
+) -> Maybe
     requires { ⌜ (cellsAt ≤ length (now w)) × Lined (linesRead (wordIn (now w))) × ReadAllocations (now allocations) k × Readable allocation × (first ≤ mostPoints) ⌝ }
     requires { ⌜ AllFit first (linesIn (now w)) (allocationsIn (now allocations) k) × (allocation .place ≤ length (lineThen first (now w) (now allocations) k (allocation .resource))) ⌝ }
     ensures { λ r. ⌜ r ≡ maybeFrom (ruleBefore settings (lineThen first (now (w .entry)) (now (allocations .entry)) k (allocation .resource)) (allocation .place)

@@ -9,8 +9,8 @@ mod dropping; // points dropped
 mod growing; // new points
 
 pub use adding::add;
-pub use adding::is_consistent;
 pub use adding::entails;
+pub use adding::is_consistent;
 pub use copying::FEW_POINTS;
 pub use copying::FEWEST_POINTS;
 pub use copying::cells_of;

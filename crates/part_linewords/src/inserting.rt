@@ -13,11 +13,11 @@ ghost use Rattle.part_boardwords.specs.Layout.{linesAt, cellsAt, lineEnd};
 ghost use Rattle.part_boardwords.specs.Words.{wordIn, lineRead, linesRead, linesIn};
 ghost use Rattle.part_boardwords.specs.Codec.{linesWords, overwritten};
 ghost use Rattle.part_linewords.specs.Beside.{Tidy, Beside};
+use part_allocations::read_allocation;
+use part_allocations::used_from;
 use part_boardwords::line_start;
 use part_boardwords::move_uses_up;
 use part_boardwords::write_use;
-use part_allocations::read_allocation;
-use part_allocations::used_from;
 use spec_plain::Use;
 
 // The line at word `at` with a use put in after `place` others. Those behind it move up by one.

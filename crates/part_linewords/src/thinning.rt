@@ -1,8 +1,8 @@
 // The lines without the uses of points that leave, the m points from f on.
 use part_boardwords::clear_uses;
 use part_boardwords::line_start;
-use part_boardwords::write_use;
 use part_boardwords::use_at;
+use part_boardwords::write_use;
 use part_lines::stay_count;
 use part_lines::stay_use;
 use spec_plain::limits;

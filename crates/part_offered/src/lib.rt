@@ -4,8 +4,8 @@
 use base_words::byte_at;
 use base_words::offset_at;
 use base_words::u32_at;
-use part_lines::Steps;
 use part_allocations::push_allocation;
+use part_lines::Steps;
 use read_plant::Trailer;
 use read_plant::allocation_count;
 use read_plant::start_of;
@@ -67,7 +67,14 @@ pub fn read_durations(plant: &[u8], t: Trailer, offer: &[u8]) -> Steps
 }
 
 // Allocation j of a step, whose action's record starts at `start` and whose bytes in the offer start at `at`.
-fn allocation_at(plant: &[u8], offer: &[u8], step: u32, start: usize, at: usize, j: usize) -> Allocation
+fn allocation_at(
+    plant: &[u8],
+    offer: &[u8],
+    step: u32,
+    start: usize,
+    at: usize,
+    j: usize,
+) -> Allocation
     requires { ⌜ (start ≡ recordOf (now plant) (now offer) step) × (at ≡ stepStart (now plant) (now offer) step) ⌝ }
     requires { ⌜ (start + 28 + 12 * j + 12 ≤ length (now plant)) × (at + 4 + 4 * j + 4 ≤ length (now offer)) ⌝ }
     ensures { λ r. ⌜ r ≡ allocationOf (now (plant .entry)) (now (offer .entry)) step j ⌝ }
@@ -98,7 +105,11 @@ fn push_step(
     ensures { λ _. ⌜ allocationsIn (now (allocations .exit)) (many + n) ≡ allocationsIn (now (allocations .entry)) many ++ allocationsOfStep (now (plant .entry)) (now (offer .entry)) k 0 n ⌝ }
 {
     for j in 0..n {
-        push_allocation(allocations, many + j, allocation_at(plant, offer, k, start, at, j));
+        push_allocation(
+            allocations,
+            many + j,
+            allocation_at(plant, offer, k, start, at, j),
+        );
     }
 }
 

@@ -1,7 +1,7 @@
 -- Refusal 13, by the forward definition: the fact named is needed and not known so, no lower fact is, and the chain itself is no
 -- impossible one, since some full state runs. Assumes nothing.
 --   Small, SmallNeeds     masks of 32 bits, of a pair and of a chain's needs
---   Thirteen, thirteen    what refusal 13 with fact k says, and that it does
+--   thirteen    refusal 13 with fact k says what `Thirteen` says
 -- The idea: what the regression leaves at the start, l, holds exactly in the states that run. A fact of l is therefore needed; and a
 -- fact that is not in l is not needed, since of the two states that hold just l, one has it false and one has it true.
 use Prim.Native.Nat.{ℕ, _+_, _<_, _^_}
@@ -21,7 +21,7 @@ use Rattle.read_facts.specs.declared.Action.{Action}
 use Rattle.read_facts.specs.declared.Need.{Need}
 use Rattle.read_facts.specs.declared.Need.the-variants.{Facts, Clash}
 use Rattle.read_facts.specs.Regression.{undoes, regressed, backOver, thenBack, workBack, lacking, atStart, onNeed, factRuling}
-use Rattle.read_facts.specs.Forward.{FullState, RunsThrough, Lacks}
+use Rattle.read_facts.specs.Forward.{FullState, RunsThrough, Lacks, Thirteen}
 use Rattle.read_facts.proofs.Bools.{clash}
 use Rattle.read_facts.proofs.Theorem.{Fair, Meaning, meaning, least, most, least-holds, most-holds, lacks-cases, lacks-true, lacks-false}
 
@@ -72,15 +72,6 @@ lack-is x k e = go (eqb x 0) refl e
     go false p q = (eqb-false x 0 p, cc)
 
 module _ (known goal : Literals) (chain : List Action) where
-  -- what refusal 13 with fact k says
-  pub record Thirteen (k : ℕ) : Type 0 where
-    -- fact k is needed and not known so
-    pub lacks : Lacks known chain goal k
-    -- no lower fact is
-    pub lowest-lacking : (j : ℕ) → j < k → Lacks known chain goal j → ⊥
-    -- and it is for this fact's sake: some full state runs through the chain to the goal
-    pub some-run : (σ : FullState) × RunsThrough chain goal σ
-
   module _ (l : Literals) (m : Meaning chain goal (Facts l)) (s : share (l .pos) (l .neg) ≡ false) where
     least-runs : RunsThrough chain goal (least l)
     least-runs = m (least l) .0 (least-holds l s)
@@ -104,7 +95,7 @@ module _ (known goal : Literals) (chain : List Action) where
         shown true e = refl
         shown false e = sym e
 
-  thirteen-at : (n : Need) → Meaning chain goal n → Consistent n → (k : ℕ) → onNeed known n ≡ refused 13 k → Thirteen k
+  thirteen-at : (n : Need) → Meaning chain goal n → Consistent n → (k : ℕ) → onNeed known n ≡ refused 13 k → Thirteen known goal chain k
   unfolding atStart
   thirteen-at (Facts l) m p k e =
       let q = lack-is (lacking known l) k e in
@@ -119,7 +110,7 @@ module _ (known goal : Literals) (chain : List Action) where
 
   pub thirteen :
       Fair chain → SmallNeeds chain → Small goal → share (goal .pos) (goal .neg) ≡ false
-      → (k : ℕ) → factRuling known goal chain ≡ refused 13 k → Thirteen k
+      → (k : ℕ) → factRuling known goal chain ≡ refused 13 k → Thirteen known goal chain k
   unfolding factRuling
   thirteen fair needs small s =
       thirteen-at (workBack chain 0 goal) (meaning chain goal 0 fair) (consistent chain goal 0 s small needs)

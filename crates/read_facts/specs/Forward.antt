@@ -7,7 +7,8 @@
 --   AllRun known chain goal   every full state that fits the known facts runs
 --   Needed chain goal k b     fact k is b in every full state that runs
 --   Lacks known chain goal k  fact k is needed and not known so (refusal 13)
-use Prim.Native.Nat.{ℕ}
+--   Thirteen known goal chain k   what refusal 13 with fact k says
+use Prim.Native.Nat.{ℕ, _<_}
 use mathlib.Core.Path.{_≡_}
 use mathlib.Core.Logic.{_⊎_}
 use mathlib.Core.List.{List, [], _∷_}
@@ -38,3 +39,12 @@ Needed chain goal k b = (σ : FullState) → RunsThrough chain goal σ → σ k 
 abbrev pub Lacks : Literals → List Action → Literals → ℕ → Type 0
 Lacks known chain goal k =
     (Needed chain goal k true × (has (known .pos) k ≡ false)) ⊎ (Needed chain goal k false × (has (known .neg) k ≡ false))
+
+-- "the lowest lacking fact"
+pub record Thirteen (known goal : Literals) (chain : List Action) (k : ℕ) : Type 0 where
+  -- fact k is needed and not known so
+  pub lacks : Lacks known chain goal k
+  -- no lower fact is
+  pub lowest-lacking : (j : ℕ) → j < k → Lacks known chain goal j → ⊥
+  -- and it is for this fact's sake: some full state runs through the chain to the goal
+  pub some-run : (σ : FullState) × RunsThrough chain goal σ

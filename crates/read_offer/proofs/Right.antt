@@ -8,8 +8,8 @@ use mathlib.Core.Path.{_≡_, refl, sym, _∙_}
 use mathlib.Core.Logic.{_↔_}
 use mathlib.Core.List.{List}
 use mathlib.Core.Bool.{Bool, true, false, true≢false, cond, _||_}
-use Rattle.base_words.specs.Word.{word}
-use Rattle.base_words.proofs.WordRange.{Bytes, word-lt}
+use Rattle.base_words.specs.Word.{word, Bytes}
+use Rattle.base_words.proofs.WordRange.{word-lt}
 use Rattle.base_masks.specs.Mask.{share}
 use Rattle.base_rulings.specs.declared.Ruling.{Ruling}
 use Rattle.base_rulings.specs.declared.Ruling.the-variants.{Accepted}
@@ -19,9 +19,9 @@ use Rattle.base_rulings.proofs.RulingLaws.{refused-no, neither}
 use Rattle.read_plant.specs.Plant.{trailerOf, recordStart, plantRuling}
 use Rattle.read_plant.proofs.Good.{good, makes-apart}
 use Rattle.read_facts.specs.Regression.{factRuling}
-use Rattle.read_facts.specs.Forward.{AllRun}
+use Rattle.read_facts.specs.Forward.{AllRun, Thirteen}
 use Rattle.read_facts.proofs.Theorem.{Fair, accepted-runs, runs-accepted, clash-runs-not}
-use Rattle.read_facts.proofs.Thirteen.{Small, SmallNeeds, Thirteen, thirteen}
+use Rattle.read_facts.proofs.Thirteen.{Small, SmallNeeds, thirteen}
 use Rattle.read_offer.specs.Offer.{knownOf, goalOf, stepCount, stepStart, offerRuling, actionOf, chainFrom, chainOf, consistencyRuling, chainRuling, factCheck}
 use Rattle.read_offer.proofs.Steps.{read-of}
 use Rattle.read_offer.proofs.Chain.{on-to-consistency}

@@ -3,8 +3,7 @@
 --   kept-to, kept-of     a rule that is kept is NotLater, and the other way
 --   kept-append          two lists of rules are kept when each is;  kept-ext: equal times keep the same rules
 --   kept-renamed         points renamed: the times of the new names are looked up
---   Keeps t r            the plain machine's rule r, over point numbers, is kept by t;  KeepsAll t rs: each of a list
---   keeps-to, keeps-of, keeps-append   the same laws for them
+--   keeps-to, keeps-of, keeps-append   the same laws for the plain machine's rules (`Keeps`, `KeepsAll`)
 --   kept-named           points named: the plain rules are kept by the times of the names
 use mathlib.Core.Path.{_≡_, subst, fun-ext}
 use mathlib.Core.Logic.{_↔_}
@@ -13,7 +12,7 @@ use Prim.Native.Nat.{ℕ, _+_, _≤_}
 use native.Mathlib.Omega.{arith}
 use lib.IntN.{ℤ, pos, _+ℤ_}
 use Rattle.spec_plain.specs.declared.Rule.{Rule}
-use Rattle.spec_plain.specs.Rules.{Times, RuleOn, named, renamed, Kept, AllKept}
+use Rattle.spec_plain.specs.Rules.{Times, RuleOn, named, renamed, Kept, AllKept, Keeps, KeepsAll}
 use Rattle.spec_plain.proofs.Whole.{up, dn, below-of, of-below, add-spec}
 
 module _ {P : Type 0} where
@@ -53,12 +52,6 @@ module _ {P Q : Type 0} where
   kept-renamed f t (r ∷ rs) = let rest = kept-renamed f t rs in (λ k. (k .0, rest .0 (k .1)), λ k. (k .0, rest .1 (k .1)))
 
 -- ---- the plain machine's rules: their points are their own names
-
-abbrev pub Keeps : Times → Rule → Type 0
-Keeps t r = Kept t (named (λ x. x) r)
-
-abbrev pub KeepsAll : Times → List Rule → Type 0
-KeepsAll t rs = AllKept t (map (named (λ x. x)) rs)
 
 pub keeps-to : (t : Times) (r : Rule) → Keeps t r → NotLater t (r .early) (r .more) (r .late) (r .slack)
 unfolding named

@@ -3,7 +3,8 @@
 --   RuleOn P       a rule over points of the kind P; the plain machine's rules are over point numbers
 --   named f r      a rule of the plain machine, its points named by f;  renamed f r: a rule with its points renamed
 --   Kept t r       the times t keep the rule r;  AllKept t rs: every rule of a list
-use mathlib.Core.List.{List, [], _∷_}
+--   Keeps, KeepsAll   the same of the plain machine's rules, whose points are numbers
+use mathlib.Core.List.{List, [], _∷_, map}
 use Prim.Native.Nat.{ℕ}
 use lib.IntN.{ℤ, pos, _+ℤ_}
 use lib.Signed.{_≤ℤ_}
@@ -32,3 +33,10 @@ Kept t r = (t (r .early) +ℤ pos (r .more)) ≤ℤ (t (r .late) +ℤ pos (r .sl
 unfoldable pub AllKept : {P : Type 0} → (P → ℤ) → List (RuleOn P) → Type 0
 AllKept t [] = Unit {0}
 AllKept t (r ∷ rs) = Kept t r × AllKept t rs
+
+-- the points of the plain machine's rules are their own names
+abbrev pub Keeps : Times → Rule → Type 0
+Keeps t r = Kept t (named (λ x. x) r)
+
+abbrev pub KeepsAll : Times → List Rule → Type 0
+KeepsAll t rs = AllKept t (map (named (λ x. x)) rs)

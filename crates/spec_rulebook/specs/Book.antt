@@ -30,7 +30,7 @@ use Rattle.spec_plain.specs.declared.Settings.{Settings}
 use Rattle.spec_plain.specs.declared.Use.{Use}
 use Rattle.spec_plain.specs.declared.Rule.{Rule}
 use Rattle.spec_plain.specs.Plain
-use Rattle.spec_plain.specs.Rules.{Times, RuleOn, named, renamed, AllKept}
+use Rattle.spec_plain.specs.Rules.{Times, RuleOn, named, renamed, AllKept, KeepsAll}
 use Rattle.spec_rulebook.specs.Reading.{Reading, bad, good, readingOf}
 
 -- plan takes a plant file's bytes and an offer's
@@ -100,7 +100,7 @@ Gap b i j d = LargestGap (Possible b) i j d
 
 -- in every possible timetable these rules are kept
 unfoldable pub Entails : Book → List Rule → Type 0
-Entails b rs = (u : Times) → Possible b u → AllKept u (map (named (λ x. x)) rs)
+Entails b rs = (u : Times) → Possible b u → KeepsAll u rs
 
 -- ---- the steps
 

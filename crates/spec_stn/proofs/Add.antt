@@ -13,8 +13,8 @@ use Prim.Native.Nat.{ℕ, _+_, _≤_, _<_}
 use native.Mathlib.Omega.{arith}
 use borrow.Author.Tests.{leb-true, leb-false}
 use Rattle.spec_plain.specs.declared.Rule.{Rule}
-use Rattle.spec_plain.specs.Rules.{Times, AllKept}
-use Rattle.spec_plain.proofs.Rules.{Keeps, KeepsAll, keeps-to, keeps-of}
+use Rattle.spec_plain.specs.Rules.{Times, AllKept, Keeps, KeepsAll}
+use Rattle.spec_plain.proofs.Rules.{keeps-to, keeps-of}
 use Rattle.spec_stn.specs.Table.{bias, Table, Closed, Fits, IsConsistent, isConsistent, add, addAll, Within}
 use Rattle.spec_stn.proofs.Fits.{fits-to, fits-of}
 

@@ -16,9 +16,9 @@ use lib.Dec.{T}
 use lib.IntN.{pos, subℕ}
 use borrow.Author.Tests.{leb-true, leb-false}
 use Rattle.spec_plain.specs.declared.Rule.{Rule}
-use Rattle.spec_plain.specs.Rules.{Times, AllKept}
+use Rattle.spec_plain.specs.Rules.{Times, AllKept, Keeps, KeepsAll}
 use Rattle.spec_plain.proofs.Whole.{up, dn, sub-spec, whole-eq}
-use Rattle.spec_plain.proofs.Rules.{NotLater, kept-to, kept-of, Keeps, KeepsAll, keeps-to, keeps-of}
+use Rattle.spec_plain.proofs.Rules.{NotLater, kept-to, kept-of, keeps-to, keeps-of}
 use Rattle.spec_stn.specs.Table.{bias, Table, Closed, Fits, far, earliest, latest, soonest, Within, entails, entailsAll}
 
 pub fits-to : {n : ℕ} {c : Table} {t : Times} → Fits n c t → (i j : ℕ) → i < n → j < n → NotLater t j bias i (c i j)

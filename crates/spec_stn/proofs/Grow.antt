@@ -11,9 +11,9 @@ use Prim.Native.Nat.{ℕ, zero, suc, _+_, _≤_, _<_}
 use native.Mathlib.Omega.{arith}
 use native.Mathlib.Decide.{decLt}
 use borrow.Author.Tests.{eq-eqb, ne-eqb}
-use Rattle.spec_plain.specs.Rules.{Times, AllKept}
+use Rattle.spec_plain.specs.Rules.{Times, AllKept, Keeps, KeepsAll}
 use Rattle.spec_plain.specs.Plain.{notBefore, notAfter, bounds}
-use Rattle.spec_plain.proofs.Rules.{NotLater, Keeps, KeepsAll, keeps-to, keeps-of}
+use Rattle.spec_plain.proofs.Rules.{NotLater, keeps-to, keeps-of}
 use Rattle.spec_stn.specs.Table.{bias, Table, Closed, Fits, grow, growAll}
 use Rattle.spec_stn.proofs.Fits.{fits-to, fits-of}
 

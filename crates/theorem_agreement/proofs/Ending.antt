@@ -15,9 +15,9 @@ use borrow.Author.Tests.{leb-false}
 use Rattle.spec_plain.specs.declared.Settings.{Settings}
 use Rattle.spec_plain.specs.declared.Use.{Use}
 use Rattle.spec_plain.specs.Plain.{endOf, overBy, goes, endsBy, allEndBy}
-use Rattle.spec_plain.specs.Rules.{Times, AllKept}
+use Rattle.spec_plain.specs.Rules.{Times, AllKept, Keeps, KeepsAll}
 use Rattle.spec_plain.proofs.Whole.{up, dn, of-below, add-spec}
-use Rattle.spec_plain.proofs.Rules.{Keeps, KeepsAll, keeps-to, keeps-append}
+use Rattle.spec_plain.proofs.Rules.{keeps-to, keeps-append}
 use Rattle.spec_stn.specs.Table.{bias, Table, entailsAll}
 use Rattle.spec_stn.proofs.Fits.{implied-append}
 use Rattle.spec_stn.proofs.Pick.{Number, leaves, stays, number, goes-yes}

@@ -18,8 +18,7 @@ use Rattle.base_rulings.proofs.RulingLaws.{refused-no}
 use lib.IntN.{ℤ}
 use Rattle.spec_plain.specs.declared.Rule.{Rule}
 use Rattle.spec_plain.specs.Plain.{State}
-use Rattle.spec_plain.specs.Rules.{Times}
-use Rattle.spec_plain.proofs.Rules.{KeepsAll}
+use Rattle.spec_plain.specs.Rules.{Times, KeepsAll}
 use Rattle.spec_stn.specs.Table.{soonest}
 use Rattle.part_gaps.specs.Cells.{tableOf}
 use Rattle.spec_rulebook.specs.Book.{Book, Possible, Consistent, LeastTime, GreatestTime, LargestGap, made, Refuses, Guarded, Settles}
@@ -95,8 +94,8 @@ module _ (b : Board) (w : Shaped b) (s : Sound b) where
 
     pub settled-decided :
         (a : Ruled) (o : Option (List ℕ)) → a ≡ settled b n next o → Agreed (Settles (bookOf b) (made next (bookOf b) qs) n) a
-        → Decided b n Meant a
-    unfolding settled Settles Refuses
+        → Decided b n Meant next a
+    unfolding settled Settles Refuses made
     settled-decided a (some l) e g = go (g .exists .1)
       where
         yes-ruled : a .ruling ≡ Accepted
@@ -105,7 +104,7 @@ module _ (b : Board) (w : Shaped b) (s : Sound b) where
         not-refused : a ≡ refusal b n → ⊥
         not-refused q = refused-no (plain n) (sym (ap (λ (r : Ruled). r .ruling) q) ∙ yes-ruled)
 
-        go : Settles (bookOf b) (made next (bookOf b) qs) n (a .ruling) (g .exists .0) → Decided b n Meant a
+        go : Settles (bookOf b) (made next (bookOf b) qs) n (a .ruling) (g .exists .0) → Decided b n Meant next a
         go (inr p) = absurd (refused-no (plain n) (sym (p .1 .0) ∙ yes-ruled))
         go (inl p) =
             let x = g .keeps (a .ruling) (g .exists .0) (g .exists .1) .1 in
@@ -114,6 +113,7 @@ module _ (b : Board) (w : Shaped b) (s : Sound b) where
               accepted = (λ r. some-meant (p .0), λ q. yes-ruled);
               refused = (λ q. absurd (not-refused q), λ q. absurd (q (some-meant (p .0))));
               either = inl yes-ruled;
+              state = λ r. sym (y .state);
               table = λ r. sim-minimal (a .board) (made next (bookOf b) qs) y Meant (made-meant next qs);
             }
     settled-decided a none e g = go (g .exists .1)
@@ -121,12 +121,13 @@ module _ (b : Board) (w : Shaped b) (s : Sound b) where
         not-ruled : a .ruling ≡ Accepted → ⊥
         not-ruled q = refused-no (plain n) (sym (ap (λ (r : Ruled). r .ruling) e) ∙ q)
 
-        go : Settles (bookOf b) (made next (bookOf b) qs) n (a .ruling) (g .exists .0) → Decided b n Meant a
+        go : Settles (bookOf b) (made next (bookOf b) qs) n (a .ruling) (g .exists .0) → Decided b n Meant next a
         go (inl p) = absurd (not-ruled (p .1))
         go (inr p) =
             record {
               accepted = (λ r. absurd (not-ruled r), λ q. absurd (none-meant (p .0) q));
               refused = (λ q. none-meant (p .0), λ q. e);
               either = inr e;
+              state = λ r. absurd (not-ruled r);
               table = λ r. absurd (not-ruled r);
             }

@@ -11,7 +11,7 @@ pub mod Sending
 pub mod Fourteen
 pub mod Six
 pub mod Refused
-pub mod Demand2
+pub mod Decided
 pub mod Lists
 pub mod Demand3
 pub mod Compared
@@ -20,3 +20,5 @@ pub mod TwentyOne
 pub mod Room
 pub mod Reported
 pub mod GivenBack
+pub mod OnWords
+pub mod Demand2

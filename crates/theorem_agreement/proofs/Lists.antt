@@ -3,7 +3,8 @@
 --   lists-6        no call of a list gets 6
 --   lists-keep     every run of the rule book has the board's rulings, and its book is beside the board after;  lists-exist: there is one
 --   fresh-beside   the board that fresh gives is beside the fresh book
---   reached        every run from the fresh book is beside the board after;  agreement: all that specs/Runs says
+--   reached        every run from the fresh book is beside the board after;  represented: which so represents its book
+--   agreement      all that specs/Runs says
 use mathlib.Core.Path.{_≡_, refl, sym, ap, ap₂, _∙_}
 use mathlib.Core.Bool.{false}
 use mathlib.Core.List.{List, [], _∷_}
@@ -31,12 +32,13 @@ use Rattle.theorem_demands.specs.Model as Model
 use Rattle.theorem_demands.specs.Beside.{Sim}
 use Rattle.theorem_demands.proofs.Step.{fresh-sim}
 use Rattle.theorem_demands.proofs.Runs.{book-some}
+use Rattle.theorem_demands.proofs.Values.{sim-least, sim-greatest, sim-gap}
 use Rattle.theorem_agreement.specs.Abstract.{Shaped, abstractOf}
-use Rattle.theorem_agreement.specs.Runs.{started, opened, callRuled, boardAfter, rulings, Agreement}
+use Rattle.theorem_agreement.specs.Runs.{started, opened, callRuled, boardAfter, rulings, Represents, Agreement}
 use Rattle.theorem_agreement.proofs.Keeps.{Answered}
 use Rattle.theorem_agreement.proofs.Agreement.{carried, call-sound, call-agrees}
 use Rattle.theorem_agreement.proofs.Exact.{sim-same}
-use Rattle.theorem_agreement.proofs.Demand2.{sound-minimal}
+use Rattle.theorem_agreement.proofs.Decided.{sound-minimal}
 use Rattle.theorem_agreement.proofs.Six.{Not6, call-6}
 
 -- ---- from any sound board
@@ -122,24 +124,34 @@ module _ (s : Settings) (good : badSettings s ≡ false) where
       → (rs ≡ rulings (started s) cs) × Sim (abstractOf (boardAfter (started s) cs)) k
   reached cs rs k p = lists-keep cs (started s) (opened s) (fresh-answered .shaped) (fresh-answered .sound) fresh-beside rs k p
 
+  -- the board after the list represents every run's book
+  pub represented : (cs : List Call) (rs : List Ruling) (k : Book) → Runs (opened s) cs rs k → Represents (boardAfter (started s) cs) k
+  represented cs rs k p =
+      let b = boardAfter (started s) cs in
+      let beside = reached cs rs k p .1 in
+      record {
+        state = sym (beside .state);
+        timetables = sim-same b k beside;
+        possible = book-some beside;
+        gaps = sim-gap beside;
+        earliests = sim-least beside;
+        latests = sim-greatest beside;
+      }
+
   pub agreement : (cs : List Call) → Agreement s cs
   agreement cs =
       let w = fresh-answered .shaped in
       let sn = fresh-answered .sound in
       let b = boardAfter (started s) cs in
-      let out = lists-exist cs (started s) (opened s) w sn fresh-beside in
-      let beside = reached cs in
       let end = lists-sound cs (started s) w sn in
       record {
-        same-rulings = λ rs k p. beside rs k p .0;
-        exists = out;
+        same-rulings = λ rs k p. reached cs rs k p .0;
+        exists = lists-exist cs (started s) (opened s) w sn fresh-beside;
+        represents = represented cs;
         same-timetables = λ rs qs k j p q u.
-            let left = sim-same b k (beside rs k p .1) u in
-            let right = sim-same b j (beside qs j q .1) u in
-            (λ x. right .0 (left .1 x), λ x. left .0 (right .1 x));
-        possible = λ rs k p. book-some (beside rs k p .1);
-        timetables = λ rs k p. sim-same b k (beside rs k p .1);
-        points = λ rs k p. ap liveCount (sym (beside rs k p .1 .state));
+            let one = represented cs rs k p .timetables u in
+            let other = represented cs qs j q .timetables u in
+            (λ x. other .0 (one .1 x), λ x. one .0 (other .1 x));
         some = (soonest (tableOf (b .gaps)), sound-minimal b (end .0) (end .1) .together);
         sound = end .1;
         shaped = end .0;

@@ -37,7 +37,7 @@ use Rattle.theorem_agreement.specs.Abstract.{Shaped, livePoints}
 use Rattle.theorem_agreement.specs.Timetables.{Timetable, Tells}
 use Rattle.theorem_agreement.proofs.Books.{sound-sim}
 use Rattle.theorem_agreement.proofs.Exact.{greatest-over}
-use Rattle.theorem_agreement.proofs.Demand2.{sound-minimal}
+use Rattle.theorem_agreement.proofs.Decided.{sound-minimal}
 
 pub rows-many : (b : Board) → suc (length (rowsOf b)) ≡ livePoints b
 unfolding liveCount

@@ -3,22 +3,23 @@
 --   frozen-to, -of   the rules that set points are kept exactly when each point has its value
 --   at-least         so, of least times: whatever values the rule book took
 --   sends-least      a send sets its points to their least times
-use mathlib.Core.Path.{_≡_, refl, ap, subst, _∙_}
+use mathlib.Core.Path.{_≡_, refl, sym, ap, subst, _∙_}
 use mathlib.Core.Logic.{_↔_, inl, inr}
 use mathlib.Core.List.{List, [], _∷_}
 use Prim.Native.Nat.{ℕ}
 use native.Mathlib.Omega.{arith}
 use lib.IntN.{pos}
-use Rattle.spec_plain.specs.Plain.{notBefore, notAfter, freeze}
-use Rattle.spec_plain.specs.Rules.{Times, AllKept}
+use Rattle.spec_plain.specs.Plain.{notBefore, notAfter, freeze, sentState}
+use Rattle.spec_plain.specs.Rules.{Times, AllKept, Keeps, KeepsAll}
 use Rattle.spec_plain.proofs.Whole.{up, dn, below-of, whole-eq}
-use Rattle.spec_plain.proofs.Rules.{Keeps, KeepsAll, keeps-to, keeps-of}
+use Rattle.spec_plain.proofs.Rules.{keeps-to, keeps-of}
 use Rattle.spec_stn.specs.Table.{soonest}
 use Rattle.part_gaps.specs.Cells.{tableOf}
 use Rattle.spec_rulebook.specs.Book.{Possible, LeastTime, Least, AllLeast, made, Sends}
 use Rattle.part_boardwords.specs.Board.{Board}
 use Rattle.part_sound.specs.Sound.{Sound}
 use Rattle.call_board.specs.Ruled.{Ruled}
+use Rattle.call_board.specs.Boards.{stateOf}
 use Rattle.theorem_demands.specs.Beside.{Sim}
 use Rattle.theorem_agreement.specs.Abstract.{Shaped, abstractOf, bookOf, Agreed}
 use Rattle.theorem_agreement.specs.Timetables.{Timetable, In, AtLeast, SetLeast}
@@ -88,8 +89,8 @@ module _ (b : Board) (w : Shaped b) (s : Sound b) where
     λ p. (p .0, frozen-of u (p .0 .0) v xs (λ x i. p .1 x (v x) i (l x i))),
   )
 
-  pub sends-least : (place : ℕ) (xs : List ℕ) (a : Ruled) → Agreed (Sends (bookOf b) place xs) a → SetLeast b xs a
-  unfolding Sends
+  pub sends-least : (place : ℕ) (xs : List ℕ) (a : Ruled) → Agreed (Sends (bookOf b) place xs) a → SetLeast b xs (sentState (stateOf b) place) a
+  unfolding Sends sentState made
   sends-least place xs a g =
       let out = g .exists .1 in
       let v = out .0 in
@@ -103,6 +104,7 @@ module _ (b : Board) (w : Shaped b) (s : Sound b) where
       let table = sim-minimal (a .board) (made _ (bookOf b) (freeze v xs)) y (λ u. Timetable b u × AtLeast b xs u) meant in
       record {
         accepted = out .2;
+        state = sym (y .state);
         some = (soonest (tableOf (a .board .gaps)), table .same (soonest (tableOf (a .board .gaps))) .1 (table .together));
         still = λ x i. (v x, l x i, λ u t. table .same u .0 t .1 x (v x) i (l x i));
         table = table;

@@ -4,3 +4,5 @@ pub mod Runs
 pub mod Demand3
 pub mod Compared
 pub mod Retire
+pub mod OnWords
+pub mod Demand2

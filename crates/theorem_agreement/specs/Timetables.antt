@@ -4,9 +4,10 @@
 --   Some Y              there is one of Y
 --   Minimal Y b         the board's table is the gap table of Y: it allows exactly Y, each cell less the bias is the largest gap, each
 --                       earliest time the least, and the earliest times together are one of Y
---   Decided b n Y a     a call with the answer a is accepted exactly when Y is not empty, and else refused with the number n
+--   Decided b n Y next a   a call with the answer a is accepted exactly when Y is not empty, and else refused with the number n; accepted, it leaves
+--                       the state `next` and the gap table of Y
 --   In x xs             x is one of the list xs;  AtLeast b xs u: each of the points xs is at its least time over the board's timetables
---   SetLeast b xs a     a call with the answer a sets each of the points xs to its least time over the board's timetables
+--   SetLeast b xs next a   a call with the answer a leaves the state `next`, and sets each of the points xs to its least time over the board's timetables
 --   Tells b x r         the row r of a report is that of point x: it names the point, and its least and greatest time over the board's timetables
 use mathlib.Core.Path.{_≡_}
 use mathlib.Core.Logic.{_↔_, _⊎_}
@@ -15,7 +16,7 @@ use Prim.Native.Nat.{ℕ, suc, _+_, _<_}
 use lib.ListN.{getD, take}
 use lib.IntN.{pos, subℕ}
 use Rattle.base_rulings.specs.declared.Ruling.the-variants.{Accepted}
-use Rattle.spec_plain.specs.Plain.{total}
+use Rattle.spec_plain.specs.Plain.{State, total}
 use Rattle.spec_plain.specs.Rules.{Times}
 use Rattle.part_lines.specs.ArrayLists.{noJob}
 use Rattle.spec_rulebook.specs.Book.{LeastTime, GreatestTime, LargestGap}
@@ -41,11 +42,12 @@ pub record Minimal (Y : Times → Type 0) (b : Board) : Type 0 where
   pub earliests : (x : ℕ) → x < livePoints b → LeastTime Y x (earliest (tableOf (b .gaps)) x)
   pub together : Y (soonest (tableOf (b .gaps)))
 
-pub record Decided (b : Board) (n : ℕ) (Y : Times → Type 0) (a : Ruled) : Type 0 where
+pub record Decided (b : Board) (n : ℕ) (Y : Times → Type 0) (next : State) (a : Ruled) : Type 0 where
   pub accepted : (a .ruling ≡ Accepted) ↔ Some Y
   pub refused : (a ≡ refusal b n) ↔ ¬ (Some Y)
   pub either : (a .ruling ≡ Accepted) ⊎ (a ≡ refusal b n)
-  -- the board after an accepted call
+  -- the board after an accepted call: its jobs, lines, clock and settings, and its table
+  pub state : a .ruling ≡ Accepted → stateOf (a .board) ≡ next
   pub table : a .ruling ≡ Accepted → Minimal Y (a .board)
 
 abbrev pub In : {A : Type 0} → A → List A → Type 0
@@ -55,8 +57,9 @@ In x (y ∷ ys) = (x ≡ y) ⊎ In x ys
 abbrev pub AtLeast : Board → List ℕ → Times → Type 0
 AtLeast b xs u = (x v : ℕ) → In x xs → LeastTime (Timetable b) x v → u x ≡ pos v
 
-pub record SetLeast (b : Board) (xs : List ℕ) (a : Ruled) : Type 0 where
+pub record SetLeast (b : Board) (xs : List ℕ) (next : State) (a : Ruled) : Type 0 where
   pub accepted : a .ruling ≡ Accepted
+  pub state : stateOf (a .board) ≡ next
   -- there is a timetable left
   pub some : Some (Timetable (a .board))
   -- each point stands at its least time of before the call, in all timetables after it

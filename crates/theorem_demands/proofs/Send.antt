@@ -17,9 +17,9 @@ use lib.IntN.{pos}
 use Rattle.spec_plain.specs.declared.Job.{Job}
 use Rattle.spec_plain.specs.declared.Rule.{Rule}
 use Rattle.spec_plain.specs.Plain
-use Rattle.spec_plain.specs.Rules.{Times, RuleOn, AllKept}
+use Rattle.spec_plain.specs.Rules.{Times, RuleOn, AllKept, KeepsAll}
 use Rattle.spec_plain.proofs.Whole.{up}
-use Rattle.spec_plain.proofs.Rules.{KeepsAll, keeps-of}
+use Rattle.spec_plain.proofs.Rules.{keeps-of}
 use Rattle.spec_plain.proofs.Points.{Below, unsent-below}
 use Rattle.spec_stn.specs.Table.{Table, Closed, Fits, Still, addAll, Within, earliest, soonest}
 use Rattle.spec_stn.proofs.Fits.{implied-of, soonest-fits, soonest-origin}

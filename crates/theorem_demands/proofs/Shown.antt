@@ -9,6 +9,7 @@ use mathlib.Core.Bool.{true, true≢false, not}
 use mathlib.Core.List.{List, [], _∷_}
 use Prim.Native.Nat.{ℕ, zero, suc, _<_}
 use lib.Dec.{eqb, ltb, leb}
+use lib.IntN.{subℕ}
 use borrow.Author.Tests.{eqb-true, ltb-true, leb-true, not-true}
 use Rattle.base_masks.specs.Mask.{share}
 use Rattle.base_rulings.specs.declared.Cause.the-variants.{Plain, Action, Step, Fact, Allocation}
@@ -22,16 +23,15 @@ use Rattle.read_facts.specs.Forward.{AllRun}
 use Rattle.spec_plain.specs.Plain
 use Rattle.base_lists.specs.Loops.{allBelow}
 use Rattle.base_lists.proofs.AllBelow.{both-true, allBelow-to}
-use Rattle.spec_stn.specs.Table.{bias, Table, Agree}
+use Rattle.spec_stn.specs.Table.{bias, Table}
 use Rattle.spec_rulebook.specs.Book.{Book, Least, Greatest}
 use Rattle.theorem_demands.specs.Model.{Board, book}
 use Rattle.theorem_demands.specs.Model as Model
 use Rattle.theorem_demands.specs.Beside.{Sim}
 use Rattle.theorem_demands.specs.Tidy as Tidy
-use Rattle.theorem_demands.specs.Cases.{Expect, earliest, latest, runs, fails, same, Meets, AllMeet, SameTimetables, EqualTables}
+use Rattle.theorem_demands.specs.Cases.{Expect, earliest, latest, runs, fails, same, Meets, AllMeet, EqualTables}
 use Rattle.theorem_demands.specs.Shown.{isAccepted, kindOf, sameRuling, sameRulings, readable, sameCells, sameBoards, shown, allShown}
-use Rattle.theorem_demands.proofs.Values.{least-at, greatest-at}
-use Rattle.theorem_demands.proofs.Compare.{compare}
+use Rattle.theorem_demands.proofs.Values.{least-at, greatest-at, sim-gap}
 use Rattle.theorem_demands.proofs.Tries.{turned}
 use Rattle.theorem_demands.proofs.Tidy.{fresh-runs}
 
@@ -106,12 +106,18 @@ module _ (b : Board) (k : Book) (m : Sim b k) where
   unfolding sameBoards
   same-meets other next n e =
       let p = both-true (eqb (Plain.liveCount (b .state)) (Plain.liveCount (other .state))) _ e in
-      let agree : Agree (Plain.liveCount (b .state)) (b .table) (other .table) =
-      λ i j hi hj. same-cells (b .table) (other .table) (Plain.liveCount (b .state)) i j (p .1) hi hj in
-      let count = eqb-true (Plain.liveCount (b .state)) (Plain.liveCount (other .state)) (p .0) in
-      let h = compare (m .holds) (n .holds) count .0 agree in (
-        ap Plain.liveCount (m .state) ∙ (count ∙ sym (ap Plain.liveCount (n .state))),
-        of-parts (λ (x : Book). SameTimetables x next) (subst (SameTimetables (book (b .state) (k .rules))) (sym (turned n)) h),
+      let live = Plain.liveCount (b .state) in
+      let count = eqb-true live (Plain.liveCount (other .state)) (p .0) in
+      let here = ap Plain.liveCount (m .state) in (
+        here ∙ (count ∙ sym (ap Plain.liveCount (n .state))),
+        λ i j hi hj.
+            let li : i < live = rw here at hi in
+            let lj : j < live = rw here at hj in
+            let same = same-cells (b .table) (other .table) live i j (p .1) li lj in (
+              subℕ (b .table i j) bias,
+              sim-gap m i j li lj,
+              rw same (sim-gap n i j (rw count at li) (rw count at lj)),
+            ),
       )
 
   pub shown-meets : (x : Expect) → shown b x ≡ true → Meets k x

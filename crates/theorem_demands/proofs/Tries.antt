@@ -21,8 +21,8 @@ use Rattle.base_rulings.specs.declared.Ruling.the-variants.{Accepted}
 use Rattle.base_rulings.specs.Answer.{plain}
 use Rattle.spec_plain.specs.declared.Rule.{Rule}
 use Rattle.spec_plain.specs.Plain
-use Rattle.spec_plain.specs.Rules.{Times, RuleOn, named}
-use Rattle.spec_plain.proofs.Rules.{KeepsAll, keeps-append, kept-append, kept-named}
+use Rattle.spec_plain.specs.Rules.{Times, RuleOn, named, KeepsAll}
+use Rattle.spec_plain.proofs.Rules.{keeps-append, kept-append, kept-named}
 use Rattle.spec_stn.specs.Table.{bias, Table, Closed, Fits, soonest, addAll, Within}
 use Rattle.spec_stn.proofs.Fits.{soonest-fits, soonest-origin}
 use Rattle.spec_stn.proofs.Add.{Added, addAll-added}

@@ -1,7 +1,7 @@
 -- What a case of the proving table says: a board's settings, calls, their rulings, and what else must come of it.
 --   Expect               one thing that must hold at the end
 --   SameTimetables k j   the same timetables are possible on both books
---   EqualTables k j      the gap tables of both books are equal: as many live points, and the same timetables
+--   EqualTables k j      the gap tables of both books are equal: as many live points, and each entry the same
 --   RunsTo s cs rs P     from the fresh book of these settings the calls cs have the rulings rs and come to a book with P: the rule book has a run with these
 --                        rulings, and whatever run is taken has them and ends in such a book
 --   Meets k x            what x expects holds of the book k;  AllMeet: each of a list
@@ -10,14 +10,15 @@
 use mathlib.Core.Path.{_≡_}
 use mathlib.Core.Logic.{_↔_}
 use mathlib.Core.List.{List, [], _∷_}
-use Prim.Native.Nat.{ℕ}
+use Prim.Native.Nat.{ℕ, _<_}
+use lib.IntN.{ℤ}
 use Rattle.base_rulings.specs.declared.Ruling.{Ruling}
 use Rattle.read_facts.specs.Forward.{AllRun}
 use Rattle.read_offer.specs.Offer.{knownOf, goalOf, chainOf}
 use Rattle.spec_plain.specs.declared.Settings.{Settings}
 use Rattle.spec_plain.specs.Plain.{liveCount}
 use Rattle.spec_plain.specs.Rules.{Times}
-use Rattle.spec_rulebook.specs.Book.{Book, Call, Possible, Least, Greatest, Runs, fresh}
+use Rattle.spec_rulebook.specs.Book.{Book, Call, Possible, Least, Greatest, Gap, Runs, fresh}
 
 pub data Expect : Type 0 where
   -- the point's least value over the possible timetables, and its greatest
@@ -32,10 +33,11 @@ pub data Expect : Type 0 where
 abbrev pub SameTimetables : Book → Book → Type 0
 SameTimetables k other = (u : Times) → Possible k u ↔ Possible other u
 
--- An entry is the largest time of j minus time of i over the possible timetables, and there is one for each two live points: so the tables are
--- equal where the live points are as many and the timetables the same
+-- "Entry (i, j) of the gap table is the largest time of j minus time of i over the possible timetables": of each two live points the same on both
 abbrev pub EqualTables : Book → Book → Type 0
-EqualTables k other = (liveCount (k .state) ≡ liveCount (other .state)) × SameTimetables k other
+EqualTables k other =
+    (liveCount (k .state) ≡ liveCount (other .state))
+    × ((i j : ℕ) → i < liveCount (k .state) → j < liveCount (k .state) → (d : ℤ) × Gap k i j d × Gap other i j d)
 
 abbrev pub RunsTo : Settings → List Call → List Ruling → (Book → Type 0) → Type 0
 RunsTo s cs rs P =

@@ -83,14 +83,14 @@ abbrev pub batches : List Case
 batches =
     -- rule (e) goes by the newest job of the batch: A2 ends at 6, J at 20, and the next A2 no earlier than J
     usual (plan plant (offerM 7) ∷ plan plant (jobJ 7 0) ∷ plan plant (offerM 7) ∷ []) (Accepted ∷ Accepted ∷ Accepted ∷ [])
-        (earliest 2 6 ∷ earliest 5 20 ∷ earliest 7 20 ∷ [])
+    (earliest 2 6 ∷ earliest 5 20 ∷ earliest 7 20 ∷ [])
     -- by a sent one too
     ∷ usual (plan plant (jobJ 7 0) ∷ send 0 ∷ plan plant (offerM 7) ∷ []) (Accepted ∷ Accepted ∷ Accepted ∷ []) (earliest 5 20 ∷ [])
     -- 0 is no batch, and 9 is one; another batch is another batch, by its high bits too
     ∷ usual (plan plant (jobJ 0 0) ∷ plan plant (offerM 0) ∷ []) (Accepted ∷ Accepted ∷ []) (earliest 5 6 ∷ [])
     ∷ usual (plan plant (jobJ 9 0) ∷ plan plant (offerM 9) ∷ []) (Accepted ∷ Accepted ∷ []) (earliest 5 20 ∷ [])
     ∷ usual (plan plant (jobJ 7 0) ∷ plan plant (offerM 8) ∷ plan plant (offerM 16777223) ∷ []) (Accepted ∷ Accepted ∷ Accepted ∷ [])
-        (earliest 5 6 ∷ earliest 7 6 ∷ [])
+    (earliest 5 6 ∷ earliest 7 6 ∷ [])
     ∷ []
 
 -- 14: sixteen jobs, and no more
@@ -105,10 +105,10 @@ dispatching =
     -- a retired job's effect stays: the second job, behind the first in the line, starts at 35 as before
     ∷ usual (plan long (offer 0 1 (0 ∷ 0 ∷ [])) ∷ plan long (offer 0 1 (0 ∷ 1 ∷ [])) ∷ send 0 ∷ clock 30 ∷ []) (times 4 Accepted) (earliest 3 35 ∷ [])
     ∷ usual (plan long (offer 0 1 (0 ∷ 0 ∷ [])) ∷ plan long (offer 0 1 (0 ∷ 1 ∷ [])) ∷ send 1 ∷ clock 35 ∷ retire ∷ []) (times 5 Accepted)
-        (earliest 1 35 ∷ latest 1 35 ∷ [])
+    (earliest 1 35 ∷ latest 1 35 ∷ [])
     -- 18 past the list and of a sent job; 19 back and past H; a job that is not sent stays
     ∷ usual (J ∷ send 1 ∷ send 0 ∷ send 0 ∷ clock 5 ∷ clock 4 ∷ clock 1001 ∷ [])
-        (Accepted ∷ refuse 18 ∷ Accepted ∷ refuse 18 ∷ Accepted ∷ refuse 19 ∷ refuse 19 ∷ []) []
+    (Accepted ∷ refuse 18 ∷ Accepted ∷ refuse 18 ∷ Accepted ∷ refuse 19 ∷ refuse 19 ∷ []) []
     ∷ usual (retire ∷ J ∷ retire ∷ []) (refuse 21 ∷ Accepted ∷ refuse 21 ∷ []) []
     ∷ []
 
