@@ -40,8 +40,10 @@ pub extern "C" fn sf_fresh(board: &mut [u32], horizon: u32, lead: u32) -> u32
 #[no_mangle]
 pub extern "C" fn sf_plan(board: &mut [u32], plant: &[u8], offer: &[u8], cause: &mut [u32]) -> u32
     ensures number { λ r. ⌜ r ≡ numberOf (planned (lentBoard (now (board .entry))) (now (plant .entry)) (now (offer .entry)) .ruling) ⌝ }
-    ensures words { λ _. ⌜ now (board .exit) ≡ wordsAfter (now (board .entry)) (planned (lentBoard (now (board .entry))) (now (plant .entry)) (now (offer .entry))) ⌝ }
-    ensures cause { λ _. ⌜ now (cause .exit) ≡ set (now (cause .entry)) 0 (valueOf (planned (lentBoard (now (board .entry))) (now (plant .entry)) (now (offer .entry)) .ruling)) ⌝ }
+    ensures words { λ _. ⌜ now (board .exit) ≡
+        wordsAfter (now (board .entry)) (planned (lentBoard (now (board .entry))) (now (plant .entry)) (now (offer .entry))) ⌝ }
+    ensures cause { λ _. ⌜ now (cause .exit) ≡
+        set (now (cause .entry)) 0 (valueOf (planned (lentBoard (now (board .entry))) (now (plant .entry)) (now (offer .entry)) .ruling)) ⌝ }
 {
     let ruling = plan(board, plant, offer);
     write_cause(cause, value(ruling));

@@ -19,7 +19,6 @@ use Rattle.base_rulings.specs.declared.Ruling.{Ruling}
 use Rattle.base_rulings.specs.declared.Ruling.the-variants.{Accepted, Refused}
 use Rattle.base_rulings.specs.Order.{ifAccepted}
 use Rattle.spec_plain.specs.Limits.{mostJobs, resources, mostUses}
-use Rattle.spec_plain.specs.declared.Settings.{Settings}
 use Rattle.spec_plain.specs.declared.Job.{Job}
 use Rattle.part_lines.specs.declared.Jobs.{Jobs}
 use Rattle.part_lines.specs.declared.Line.{Line}
@@ -53,7 +52,8 @@ lines-many w = build-length (lineAt (wordIn w)) resources
 
 -- ---- answers
 
-pub answered : (w z : List ℕ) (r : Ruled) (b : Board) → record { ruling = Accepted; board = b } ≡ r → z ≡ wordsOf b → (Accepted ≡ r .ruling) × (z ≡ wordsAfter w r)
+pub answered :
+    (w z : List ℕ) (r : Ruled) (b : Board) → record { ruling = Accepted; board = b } ≡ r → z ≡ wordsOf b → (Accepted ≡ r .ruling) × (z ≡ wordsAfter w r)
 unfolding wordsAfter
 answered w z r b e is = (ap (λ (x : Ruled). x .ruling) e, is ∙ ap (wordsAfter w) e)
 

@@ -4,8 +4,8 @@
 --   stored-length     clearing and storing leave as many words
 --   other-number      words that are not as many as a board has: 6, and they stay
 --   refused-words     settings out of range: 5, and the words of the zero board;  accepted-words: those of the fresh board
-use Prim.Native.Nat.{ℕ, zero, suc, _+_, _≤_, _<_}
-use mathlib.Core.Path.{_≡_, refl, sym, _∙_, ap, ap₂}
+use Prim.Native.Nat.{ℕ, zero, suc, _+_, _<_}
+use mathlib.Core.Path.{_≡_, refl, sym, _∙_, ap}
 use mathlib.Core.Bool.{true, false, cond}
 use mathlib.Core.List.{List}
 use native.Mathlib.Omega.{arith}
@@ -13,7 +13,7 @@ use native.Mathlib.Decide.{ℕ-discrete, decLt}
 use lib.Dec.{eqb}
 use lib.ListN.{length, getD, set, replicate, length-set}
 use lib.Seq.{getD-set-same, getD-set-other}
-use borrow.Author.Tests.{eq-eqb, ne-eqb, not-false}
+use borrow.Author.Tests.{eq-eqb, ne-eqb}
 use Rattle.base_rulings.specs.declared.Ruling.the-variants.{Accepted}
 use Rattle.base_rulings.specs.Answer.{refuse}
 use Rattle.part_lines.specs.Padded.{padded}
@@ -128,7 +128,8 @@ module _ (s : Settings) (w : List ℕ) where
     stored-at : (k : ℕ) → Dec (k ≡ horizonAt) → Dec (k ≡ leadAt) → Dec (k ≡ cellsAt) → getD stored k 0 ≡ started s k
     stored-at k h l (yes e) =
         ap (λ (i : ℕ). getD stored i 0) e
-        ∙ getD-set-same headed cellsAt bias 0 (omega (arith, long, length-set (set x horizonAt (s .horizon)) leadAt (s .lead), length-set x horizonAt (s .horizon)))
+        ∙ getD-set-same headed cellsAt bias 0
+        (omega (arith, long, length-set (set x horizonAt (s .horizon)) leadAt (s .lead), length-set x horizonAt (s .horizon)))
         ∙ sym (ap (started s) e ∙ at-cells s)
     stored-at k h (yes e) (no c) =
         getD-set-other headed cellsAt k bias 0 c

@@ -154,7 +154,9 @@ module _
     unfolding notBefore liveCount
     first = record { early-live = omega arith; late-live = omega arith; few-more = omega (arith, clock); few-slack = omega arith }
 
-    joined-usable : (rs : List Rule) → All (Usable n) rs → length rs ≤ 64 → full s (newPoints o) ≡ false → (ls : List (List Use)) → DraftJoins s o (joining s o (Placed.done ls rs))
+    joined-usable :
+        (rs : List Rule) → All (Usable n) rs → length rs ≤ 64 → full s (newPoints o) ≡ false → (ls : List (List Use))
+        → DraftJoins s o (joining s o (Placed.done ls rs))
     unfolding DraftJoins joining full liveCount
     joined-usable rs a few room ls =
         let roomy = neither (leb mostJobs (length (s .jobs))) (ltb mostPoints (total (s .jobs) + newPoints o)) room in
@@ -173,13 +175,16 @@ module _
             all-append (Usable n) (lasting ++ rs) ending
                 (all-append (Usable n) lasting rs (durations-usable n (liveCount s) (o .steps) (omega arith) (offer .steps)) a) (end .0),
           );
-          few = omega (arith, length-append (lasting ++ rs) ending, length-append lasting rs, durations-length (liveCount s) (o .steps), offer .few, few, end .1);
+          few =
+              omega (arith, length-append (lasting ++ rs) ending, length-append lasting rs, durations-length (liveCount s) (o .steps), offer .few, few, end .1);
         }
       where
         few-jobs : leb mostJobs (length (s .jobs)) ≡ false → length (s .jobs) < mostJobs
         few-jobs e = leb-false mostJobs (length (s .jobs)) e
 
-    joining-joins : (q : Placed) → Placing (s .settings) (Fits n) (Usable n) (order-usable (s .settings) n) 64 q → full s (newPoints o) ≡ false → DraftJoins s o (joining s o q)
+    joining-joins :
+        (q : Placed) → Placing (s .settings) (Fits n) (Usable n) (order-usable (s .settings) n) 64 q → full s (newPoints o) ≡ false
+        → DraftJoins s o (joining s o q)
     unfolding Placing DraftJoins joining
     joining-joins (Placed.stop c) a room = tt
     joining-joins (Placed.done ls rs) a room = joined-usable rs (a .1) (a .2) room ls
@@ -188,12 +193,15 @@ module _
     unfolding DraftJoins drafted
     drafted-joins = go (full s (newPoints o)) refl
       where
-        go : (b : Bool) → full s (newPoints o) ≡ b → DraftJoins s o (cond b (Draft.stop (plain 14)) (joining s o (placed (s .settings) (liveCount s) 0 (o .allocations) (s .lines) [])))
+        go :
+            (b : Bool) → full s (newPoints o) ≡ b
+            → DraftJoins s o (cond b (Draft.stop (plain 14)) (joining s o (placed (s .settings) (liveCount s) 0 (o .allocations) (s .lines) [])))
         go true e = tt
         go false e =
             joining-joins (placed (s .settings) (liveCount s) 0 (o .allocations) (s .lines) [])
             (placed-all (s .settings) (Fits n) (Usable n) (order-usable (s .settings) n) (liveCount s) 0 64 (o .allocations) (s .lines) []
-            (all-map (SizedAllocation (length (o .steps))) (λ p. Fits n (usedFrom (liveCount s) p)) (λ p. overwritten-fits n (liveCount s) (length (o .steps)) p (omega arith)) (o .allocations) (offer .allocations))
+            (all-map (SizedAllocation (length (o .steps))) (λ p. Fits n (usedFrom (liveCount s) p))
+            (λ p. overwritten-fits n (liveCount s) (length (o .steps)) p (omega arith)) (o .allocations) (offer .allocations))
             (all-map (All (Fits (liveCount s))) (All (Fits n)) (λ l. all-map (Fits (liveCount s)) (Fits n) (λ u. wider u) l) (s .lines) lines)
             tt (omega (arith, offer .count))) e
 

@@ -129,7 +129,8 @@ module _ {b : Board} {o : Offer} {r : Drafted} (g : Going b o r) where
           board-is : boardWith b (b .clock) jobs lines cells ≡ boardOf (g .next) cells
           board-is =
               let joined-jobs = withJobs (stateOf b) (jobsOf (b .jobs) ++ (jobFrom o ∷ [])) in
-              rw (ej, el) (ap (λ (x : State). boardOf x cells) (ap (λ (ls : List (List Use)). withLines joined-jobs ls) (sym (g .lines)) ∙ sym (g .joins .state)))
+              rw (ej, el)
+              (ap (λ (x : State). boardOf x cells) (ap (λ (ls : List (List Use)). withLines joined-jobs ls) (sym (g .lines)) ∙ sym (g .joins .state)))
 
 -- ---- the offer as the code holds it
 

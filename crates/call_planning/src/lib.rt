@@ -47,9 +47,14 @@ ghost use Rattle.call_board.specs.InWords.{wordsAfter};
 // An offer that was read, on a sound board: 14 to 17, or the words of the board with its job.
 fn plan_job(w: &mut [u32], batch: u32, steps: Steps, allocations: &[u32], many: usize) -> Ruling
     requires { ⌜ length (now w) ≡ boardSize ⌝ }
-    requires { ⌜ (sound (boardIn (now w)) ≡ true) × (steps .count ≡ length (stepsOf steps)) × (steps .count ≤ mostSteps) × ReadAllocations (now allocations) many × SizedOffer (heldOffer batch steps (allocationsIn (now allocations) many)) ⌝ }
-    ensures ruling { λ r. ⌜ r ≡ decided (boardIn (now (w .entry))) (drafted (stateOf (boardIn (now (w .entry)))) (heldOffer batch steps (allocationsIn (now (allocations .entry)) many))) .ruling ⌝ }
-    ensures words { λ _. ⌜ now (w .exit) ≡ wordsAfter (now (w .entry)) (decided (boardIn (now (w .entry))) (drafted (stateOf (boardIn (now (w .entry)))) (heldOffer batch steps (allocationsIn (now (allocations .entry)) many)))) ⌝ }
+    requires { ⌜ (sound (boardIn (now w)) ≡ true) × (steps .count ≡ length (stepsOf steps)) × (steps .count ≤ mostSteps)
+        × ReadAllocations (now allocations) many × SizedOffer (heldOffer batch steps (allocationsIn (now allocations) many)) ⌝ }
+    ensures ruling { λ r. ⌜ r ≡
+        decided (boardIn (now (w .entry)))
+        (drafted (stateOf (boardIn (now (w .entry)))) (heldOffer batch steps (allocationsIn (now (allocations .entry)) many))) .ruling ⌝ }
+    ensures words { λ _. ⌜ now (w .exit) ≡
+        wordsAfter (now (w .entry)) (decided (boardIn (now (w .entry)))
+        (drafted (stateOf (boardIn (now (w .entry)))) (heldOffer batch steps (allocationsIn (now (allocations .entry)) many)))) ⌝ }
 {
     let settings = settings_in(w);
     let n = points_in(w);
@@ -78,8 +83,11 @@ fn plan_job(w: &mut [u32], batch: u32, steps: Steps, allocations: &[u32], many: 
 fn plan_offer(w: &mut [u32], plant: &[u8], end: Trailer, offer: &[u8]) -> Ruling
     requires { ⌜ length (now w) ≡ boardSize ⌝ }
     requires { ⌜ (sound (boardIn (now w)) ≡ true) × (plantRuling (now plant) ≡ Accepted) × (end ≡ trailerOf (now plant)) ⌝ }
-    ensures ruling { λ r. ⌜ r ≡ heard (boardIn (now (w .entry))) (readingOf (stateOf (boardIn (now (w .entry)))) (now (plant .entry)) (now (offer .entry))) .ruling ⌝ }
-    ensures words { λ _. ⌜ now (w .exit) ≡ wordsAfter (now (w .entry)) (heard (boardIn (now (w .entry))) (readingOf (stateOf (boardIn (now (w .entry)))) (now (plant .entry)) (now (offer .entry)))) ⌝ }
+    ensures ruling { λ r. ⌜ r ≡
+        heard (boardIn (now (w .entry))) (readingOf (stateOf (boardIn (now (w .entry)))) (now (plant .entry)) (now (offer .entry))) .ruling ⌝ }
+    ensures words { λ _. ⌜ now (w .exit) ≡
+        wordsAfter (now (w .entry)) (heard (boardIn (now (w .entry)))
+        (readingOf (stateOf (boardIn (now (w .entry)))) (now (plant .entry)) (now (offer .entry)))) ⌝ }
 {
     let format = read_offer(plant, end, offer);
     if let Ruling::Refused(cause) = format {

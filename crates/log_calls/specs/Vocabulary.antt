@@ -6,7 +6,8 @@ use mathlib.Core.Path.{_≡_}
 use mathlib.Core.Logic.{_⊎_}
 use mathlib.Core.List.{List, [], _∷_}
 use Rattle.log_calls.specs.declared.vocabulary.Word.{Word}
-use Rattle.log_calls.specs.declared.vocabulary.Word.the-variants.{List as ListWord, Plant, Check, Part, Fact, Fresh, Board, Plan, Send, Clock, Retire, Report, Table, State, Unknown}
+use Rattle.log_calls.specs.declared.vocabulary.Word.the-variants.{List as ListWord, Plant, Check, Part, Fact, Fresh, Board, Plan, Send, Clock, Retire}
+use Rattle.log_calls.specs.declared.vocabulary.Word.the-variants.{Report, Table, State, Unknown}
 
 -- `list`, `plant`, `check`, `part`, `fact`, `fresh`, `board`, `plan`, `send`, `clock`, `retire`, `report`, `table`, `state`; no bytes are the name of no call
 abbrev pub nameOf : Word → List ℕ

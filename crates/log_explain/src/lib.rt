@@ -48,7 +48,8 @@ fn put_of_plant(out: &mut [u8], at: usize, n: u32) -> usize {
         3 => put(
             out,
             at,
-            b"an index entry isn't where the record before ended, a record passes the index, has n above 4 or a nonzero spare byte, or the last one ends short of the index",
+            b"an index entry isn't where the record before ended, a record passes the index, \
+              has n above 4 or a nonzero spare byte, or the last one ends short of the index",
         ),
         4 => put(
             out,

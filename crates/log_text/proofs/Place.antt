@@ -16,7 +16,10 @@ use lib.Seq.{paste, paste-zero, length-paste, take-paste, drop-paste, take-all, 
 use Rattle.log_text.specs.Written.{Written, fitting, startAt}
 
 -- n bytes of s are written into the rest of the buffer, which is then new
-pub placed : (before s new : List ℕ) (at start n : ℕ) → start ≡ min at (length before) → n ≡ min (length s) (length before - start) → new ≡ take n s ++ drop n (take (length before - start) (drop start before)) → Written before at s (take start before ++ (new ++ drop (length before - start) (drop start before))) (start + n)
+pub placed :
+    (before s new : List ℕ) (at start n : ℕ) → start ≡ min at (length before) → n ≡ min (length s) (length before - start)
+    → new ≡ take n s ++ drop n (take (length before - start) (drop start before))
+    → Written before at s (take start before ++ (new ++ drop (length before - start) (drop start before))) (start + n)
 unfolding fitting startAt
 placed before s new at start n e f q =
     let all : length (drop start before) ≤ length before - start = rw length-drop (omega arith) in
@@ -45,7 +48,9 @@ room-for-both : (x y start len : ℕ) → start ≤ len → min (x + y) (len - s
 room-for-both x y start len h = omega arith
 
 -- so all of the first text is there, or nothing of the second
-both : (s t : List ℕ) (start len : ℕ) (m n : ℕ) → start ≤ len → m ≡ min (length s) (len - start) → n ≡ min (length t) (len - (start + m)) → take m s ++ take n t ≡ take (m + n) (s ++ t)
+both :
+    (s t : List ℕ) (start len : ℕ) (m n : ℕ) → start ≤ len → m ≡ min (length s) (len - start) → n ≡ min (length t) (len - (start + m))
+    → take m s ++ take n t ≡ take (m + n) (s ++ t)
 both s t start len m n h hm hn = go (leb (length s) (len - start)) refl
   where
     go : (q : Bool) → leb (length s) (len - start) ≡ q → take m s ++ take n t ≡ take (m + n) (s ++ t)
@@ -60,7 +65,9 @@ both s t start len m n h hm hn = go (leb (length s) (len - start)) refl
         rw (w, add-zero m, take-append-le m s t i, append-nil)
 
 -- two pastes, one after the other
-pasted : (before s t : List ℕ) (start m n : ℕ) → start + m ≤ length before → m ≤ length s → take m s ++ take n t ≡ take (m + n) (s ++ t) → paste (paste before start s m) (start + m) t n ≡ paste before start (s ++ t) (m + n)
+pasted :
+    (before s t : List ℕ) (start m n : ℕ) → start + m ≤ length before → m ≤ length s → take m s ++ take n t ≡ take (m + n) (s ++ t)
+    → paste (paste before start s m) (start + m) t n ≡ paste before start (s ++ t) (m + n)
 pasted before s t start m n h short e =
     let i : start ≤ length before = omega arith in
     let front : take (start + m) (paste before start s m) ≡ take start before ++ take m s = take-paste before start s m i short in
@@ -112,7 +119,8 @@ module _ (before s : List ℕ) (at : ℕ) where
   fitting-both : (t : List ℕ) → fitting before at (s ++ t) ≡ fitting before at s + fitting first-after first-end t
   fitting-both t = rw (fitting-second t) (room-shared t)
 
-  both-written : (t : List ℕ) → paste first-after first-end t (fitting first-after first-end t) ≡ paste before (startAt before at) (s ++ t) (fitting before at (s ++ t))
+  both-written :
+      (t : List ℕ) → paste first-after first-end t (fitting first-after first-end t) ≡ paste before (startAt before at) (s ++ t) (fitting before at (s ++ t))
   both-written t =
       rw (fitting-both t)
       (pasted before s t (startAt before at) (fitting before at s) (fitting first-after first-end t) end-within fitting-within

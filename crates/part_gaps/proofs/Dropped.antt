@@ -62,7 +62,8 @@ columns-dropped l x y z f d left a o size le few ha eo first second third =
     rewritten-is (droppedCell l f d left) l z (a * side) ((a + 1) * side) (same-z ∙ same-y ∙ same-x) inside
     (λ k h. z-below k (omega arith) ∙ y-below k (omega arith) ∙ in-x k ∙ rewritten-below e l (a * side) p k h)
     (λ k h.
-    in-z k ∙ rewritten-from nil y q (q + (side - left)) k (omega arith) ∙ in-y k ∙ rewritten-from g x p (p + (left - f)) k (omega arith) ∙ x-from k (omega arith))
+    in-z k ∙ rewritten-from nil y q (q + (side - left)) k (omega arith) ∙ in-y k ∙ rewritten-from g x p (p + (left - f)) k (omega arith)
+    ∙ x-from k (omega arith))
   where
     p : ℕ
     p = a * side + f
@@ -170,7 +171,8 @@ pub rest-cleared :
 unfolding dropped overlaid
 rest-cleared l m x f d n size few is out =
     rewritten-is h (replicate cellCount 0) x 0 q (same ∙ long ∙ size ∙ sym (length-replicate cellCount zero))
-    (λ k lo hi lt. in-x k ∙ rewritten-below nil m q e k hi ∙ ap (λ (w : List ℕ). getD w k 0) is ∙ rewritten-in h l 0 q k lo hi (omega (arith, length-replicate cellCount zero)))
+    (λ k lo hi lt. in-x k ∙ rewritten-below nil m q e k hi ∙ ap (λ (w : List ℕ). getD w k 0) is
+    ∙ rewritten-in h l 0 q k lo hi (omega (arith, length-replicate cellCount zero)))
     (λ k lt. absurd (omega arith)) (λ k ge. past k ge (decLt k cellCount))
   where
     q : ℕ

@@ -59,7 +59,8 @@ ways-turn l i a b k all x y ia ib ak bk ik small before ex ey =
     let right : y < 4294967296 = omega arith in
     let both : leb top (bitAnd x y) ≡ (holds l i a k && holds l i b k) =
     joined-test x y left right
-    ∙ ap₂ _&&_ (ap (leb top) ex ∙ lifted-test (cell l i k) (cell l i a) (cell l a k) ik) (ap (leb top) ey ∙ lifted-test (cell l i k) (cell l i b) (cell l b k) ik) in (
+    ∙ ap₂ _&&_ (ap (leb top) ex ∙ lifted-test (cell l i k) (cell l i a) (cell l a k) ik)
+    (ap (leb top) ey ∙ lifted-test (cell l i k) (cell l i b) (cell l b k) ik) in (
       omega (arith, and-le-l all (bitAnd x y)),
       joined-test all (bitAnd x y) small (omega (arith, and-le-l x y))
           ∙ allBelow-next (λ m. holds l i a m && holds l i b m) k (leb top all) (leb top (bitAnd x y)) before both,
@@ -87,7 +88,9 @@ module _ (n k way direct onward : ℕ) (few : n ≤ 16) (here : direct ≤ limit
           let small : direct ≤ bias + bias = omega (arith, limit-live n k h) in
           let same : way + (top - bias - direct) + onward ≡ way + (top - bias) + onward - direct = omega arith in
           rw (lt-ltb (16 - n + k) 16 (omega arith), lt-leb n k h, same) (lifted-test direct way onward small)
-      go (no h) = rw (le-ltb (16 - n + k) 16 (omega arith), le-leb n k (omega arith)) (le-leb top (way + (top - direct) + onward) (omega (arith, limit-rest n k (omega arith))))
+      go (no h) =
+          rw (le-ltb (16 - n + k) 16 (omega arith), le-leb n k (omega arith))
+          (le-leb top (way + (top - direct) + onward) (omega (arith, limit-rest n k (omega arith))))
 
 -- one place more: x is what the way by j leaves
 pub few-turn :

@@ -100,7 +100,8 @@ stored-two q x y room =
     ∙ ap rulesFrom (append-assoc (rulesOf q) (x ∷ []) (y ∷ []))
 
 pub first-pushed : (q one : Rules) (x y : Rule) → q ≡ rulesFrom [] → one ≡ rulesFrom (rulesOf q ++ (x ∷ [])) → x ≡ y → one ≡ rulesFrom (y ∷ [])
-first-pushed q one x y none e is = e ∙ ap (λ (l : List Rule). rulesFrom (l ++ (x ∷ []))) (rules-back q [] none (omega arith)) ∙ ap (λ (r : Rule). rulesFrom (r ∷ [])) is
+first-pushed q one x y none e is =
+    e ∙ ap (λ (l : List Rule). rulesFrom (l ++ (x ∷ []))) (rules-back q [] none (omega arith)) ∙ ap (λ (r : Rule). rulesFrom (r ∷ [])) is
 
 pub record Growing (all : List Rule) (q : Rules) (rest : List Rule) (left : ℕ) : Type 0 where
   pub runs : all ≡ rulesOf q ++ rest

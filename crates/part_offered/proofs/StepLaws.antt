@@ -78,7 +78,8 @@ unfolding stepsFrom
 steps-none p o = padded-none mostSteps noStep
 
 pub steps-next :
-    (p o : List ℕ) (l : List Declared.Step) (k start : ℕ) (s : Declared.Step) → l ≡ padded mostSteps noStep (stepsFrom p o 0 k) → k < mostSteps → start ≡ recordOf p o k
+    (p o : List ℕ) (l : List Declared.Step) (k start : ℕ) (s : Declared.Step) → l ≡ padded mostSteps noStep (stepsFrom p o 0 k) → k < mostSteps
+    → start ≡ recordOf p o k
     → s .shortest ≡ shortest p start → s .longest ≡ longest p start → set l k s ≡ padded mostSteps noStep (stepsFrom p o 0 (k + 1))
 unfolding stepOf
 steps-next p o l k start s e h er es el =

@@ -115,7 +115,8 @@ fn push_step(
 
 // The allocations of the offer, step by step, into words that hold as many as an offer may have.
 pub fn read_allocations(plant: &[u8], t: Trailer, offer: &[u8], allocations: &mut [u32]) -> usize
-    requires { ⌜ (plantRuling (now plant) ≡ Accepted) × (t ≡ trailerOf (now plant)) × (offerRuling (now plant) (now offer) ≡ Accepted) × (allocationsSize ≤ length (now allocations)) ⌝ }
+    requires { ⌜ (plantRuling (now plant) ≡ Accepted) × (t ≡ trailerOf (now plant))
+        × (offerRuling (now plant) (now offer) ≡ Accepted) × (allocationsSize ≤ length (now allocations)) ⌝ }
     ensures { λ r. ⌜ allocationsIn (now (allocations .exit)) r ≡ offerOf (now (plant .entry)) (now (offer .entry)) .allocations ⌝ }
 {
     let count = u32_at(offer, 20);

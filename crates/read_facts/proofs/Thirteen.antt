@@ -60,7 +60,8 @@ consistent-then : (a : Action) (k : ℕ) (n : Need) → Small (a .needs) → Con
 consistent-then a k (Facts l) na p = consistent-back a k l na (p .1)
 consistent-then a k (Clash c) na p = p
 
-consistent : (chain : List Action) (goal : Literals) (k : ℕ) → share (goal .pos) (goal .neg) ≡ false → Small goal → SmallNeeds chain → Consistent (workBack chain k goal)
+consistent :
+    (chain : List Action) (goal : Literals) (k : ℕ) → share (goal .pos) (goal .neg) ≡ false → Small goal → SmallNeeds chain → Consistent (workBack chain k goal)
 consistent [] goal k s g n = (s, g)
 consistent (a ∷ rest) goal k s g n = consistent-then a k (workBack rest (k + 1) goal) (n .0) (consistent rest goal (k + 1) s g (n .1))
 

@@ -22,7 +22,8 @@ use Rattle.read_facts.specs.declared.Literals.{Literals}
 use Rattle.read_facts.specs.declared.Action.{Action}
 use Rattle.read_facts.specs.declared.Need.{Need}
 use Rattle.read_facts.specs.Regression.{workBack, onNeed, factRuling}
-use Rattle.read_offer.specs.Offer.{knownOf, goalOf, stepCount, stepEnd, stepStart, offerRuling, actionOf, chainFrom, consistencyRuling, chainRuling, factCheck}
+use Rattle.read_offer.specs.Offer.{knownOf, goalOf, stepCount, stepEnd, stepStart, offerRuling, actionOf, chainFrom, consistencyRuling, chainRuling}
+use Rattle.read_offer.specs.Offer.{factCheck}
 use Rattle.read_offer.proofs.Steps.{Step, read-of}
 
 pub action-is :

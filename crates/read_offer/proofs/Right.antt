@@ -22,7 +22,8 @@ use Rattle.read_facts.specs.Regression.{factRuling}
 use Rattle.read_facts.specs.Forward.{AllRun, Thirteen}
 use Rattle.read_facts.proofs.Theorem.{Fair, accepted-runs, runs-accepted, clash-runs-not}
 use Rattle.read_facts.proofs.Thirteen.{Small, SmallNeeds, thirteen}
-use Rattle.read_offer.specs.Offer.{knownOf, goalOf, stepCount, stepStart, offerRuling, actionOf, chainFrom, chainOf, consistencyRuling, chainRuling, factCheck}
+use Rattle.read_offer.specs.Offer.{knownOf, goalOf, stepCount, stepStart, offerRuling, actionOf, chainFrom, chainOf, consistencyRuling, chainRuling}
+use Rattle.read_offer.specs.Offer.{factCheck}
 use Rattle.read_offer.proofs.Steps.{read-of}
 use Rattle.read_offer.proofs.Chain.{on-to-consistency}
 

@@ -68,7 +68,8 @@ fn read_step(plant: &[u8], t: Trailer, offer: &[u8], step: u32, at: usize) -> Re
 
 // Reads the steps one after the other. The first that fails ends the reading; then 9.
 fn read_steps(plant: &[u8], t: Trailer, offer: &[u8], count: u32) -> Ruling
-    requires { ⌜ (plantRuling (now plant) ≡ Ruling.Accepted) × (t ≡ trailerOf (now plant)) × (24 ≤ length (now offer)) × (count ≡ stepCount (now offer)) × (1 ≤ count) × (count ≤ 8) ⌝ }
+    requires { ⌜ (plantRuling (now plant) ≡ Ruling.Accepted) × (t ≡ trailerOf (now plant))
+        × (24 ≤ length (now offer)) × (count ≡ stepCount (now offer)) × (1 ≤ count) × (count ≤ 8) ⌝ }
     ensures { λ r. ⌜ r ≡ offerRuling (now (plant .entry)) (now (offer .entry)) ⌝ }
 {
     let mut at = 24;
@@ -107,7 +108,8 @@ pub fn read_offer(plant: &[u8], t: Trailer, offer: &[u8]) -> Ruling
 
 // Reads the masks of the steps, in their order: four words for each step, 0 past the last. Each step's record is found once.
 fn read_masks(plant: &[u8], t: Trailer, offer: &[u8], count: u32) -> [u32; 32]
-    requires { ⌜ (plantRuling (now plant) ≡ Ruling.Accepted) × (t ≡ trailerOf (now plant)) × (offerRuling (now plant) (now offer) ≡ Ruling.Accepted) × (count ≡ stepCount (now offer)) ⌝ }
+    requires { ⌜ (plantRuling (now plant) ≡ Ruling.Accepted) × (t ≡ trailerOf (now plant))
+        × (offerRuling (now plant) (now offer) ≡ Ruling.Accepted) × (count ≡ stepCount (now offer)) ⌝ }
     ensures { λ r. ⌜ held r 0 count ≡ chainFrom (now (plant .entry)) (now (offer .entry)) 0 count ⌝ }
 {
     let mut masks = [0u32; 32];

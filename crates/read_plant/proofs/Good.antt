@@ -22,7 +22,9 @@ use Rattle.base_rulings.specs.Answer.{refuse}
 use Rattle.base_rulings.specs.Order.{firstRefusal, refusalOf}
 use Rattle.base_rulings.proofs.RulingLaws.{refused-no, passed, neither, first-all}
 use Rattle.read_plant.specs.declared.Trailer.{Trailer}
-use Rattle.read_plant.specs.Plant.{isMark, trailerOf, badLayout, badDuration, someBadAllocation, badAction, recordAt, recordStart, recordRuling, plantRuling, allocationsOf, allocationCount, recordEnd, needsTrue, needsFalse, makesTrue, makesFalse, shortest, longest}
+use Rattle.read_plant.specs.Plant.{isMark, trailerOf, badLayout, badDuration, someBadAllocation, badAction, recordAt, recordStart, recordRuling}
+use Rattle.read_plant.specs.Plant.{plantRuling, allocationsOf, allocationCount, recordEnd, needsTrue, needsFalse, makesTrue, makesFalse, shortest}
+use Rattle.read_plant.specs.Plant.{longest}
 use Rattle.read_plant.proofs.Records.{Placed, placed, Whole, whole}
 
 pub record Good (s : List ℕ) : Type 0 where
@@ -108,7 +110,8 @@ pub makes-apart : (s : List ℕ) (at : ℕ) → badAction s at ≡ false → sha
 unfolding badAction
 makes-apart s at e =
     let needs = neither (share (needsTrue s at) (needsFalse s at)) _ e in
-    neither (share (makesTrue s at) (makesFalse s at)) (badDuration (shortest s at) (longest s at) || someBadAllocation s at (allocationCount s at)) (needs .1) .0
+    neither (share (makesTrue s at) (makesFalse s at)) (badDuration (shortest s at) (longest s at) || someBadAllocation s at (allocationCount s at))
+    (needs .1) .0
 
 -- ---- the part that holds an action's allocations
 

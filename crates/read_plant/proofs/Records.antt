@@ -21,7 +21,9 @@ use Rattle.base_rulings.specs.Answer.{cause}
 use Rattle.base_rulings.specs.Order.{refusalOf}
 use Rattle.base_rulings.proofs.RulingLaws.{neither, last-of-or, fails-no}
 use Rattle.read_plant.specs.declared.Trailer.{Trailer}
-use Rattle.read_plant.specs.Plant.{badHead, badRecord, badAllocation, someBadAllocation, badDuration, badAction, recordAt, recordStart, recordRuling, trailerOf, recordEnd, allocationCount, allocationStart, needsTrue, needsFalse, makesTrue, makesFalse, shortest, longest}
+use Rattle.read_plant.specs.Plant.{badHead, badRecord, badAllocation, someBadAllocation, badDuration, badAction, recordAt, recordStart, recordRuling}
+use Rattle.read_plant.specs.Plant.{trailerOf, recordEnd, allocationCount, allocationStart, needsTrue, needsFalse, makesTrue, makesFalse, shortest}
+use Rattle.read_plant.specs.Plant.{longest}
 
 -- ---- the allocations
 
@@ -65,7 +67,8 @@ last-bound s at r o n er eo en br bo bn = simp (← er, ← eo, ← en) (last-of
 pub passes-header :
     (s : List ℕ) (t : Trailer) (a at e : ℕ) → e ≡ word s (t .index + 4 * a) → e ≡ at → t .index < at + 28 → true ≡ badRecord s t a at
 unfolding badRecord
-passes-header s t a at e p q l = let h : ltb (t .index) (recordEnd s at) ≡ true = lt-ltb (t .index) (recordEnd s at) (omega arith) in simp (← p, eq-eqb _ _ q, h)
+passes-header s t a at e p q l =
+    let h : ltb (t .index) (recordEnd s at) ≡ true = lt-ltb (t .index) (recordEnd s at) (omega arith) in simp (← p, eq-eqb _ _ q, h)
 
 pub record Placed (s : List ℕ) (t : Trailer) (a at : ℕ) : Type 0 where
   -- its index entry says so

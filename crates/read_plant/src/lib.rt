@@ -10,7 +10,8 @@ use base_words::u32_at;
 ghost use mathlib.Core.Path.{_≡_};
 ghost use Prim.Native.Nat.{_+_, _*_, _≤_, _<_, _^_};
 ghost use lib.ListN.{length};
-ghost use Rattle.read_plant.specs.Plant.{isMark, trailerOf, badLayout, badHead, badRecord, badDuration, badAllocation, someBadAllocation, badAction, recordAt, recordStart, recordRuling, plantRuling, allocationsOf, allocationCount};
+ghost use Rattle.read_plant.specs.Plant.{isMark, trailerOf, badLayout, badHead, badRecord, badDuration, badAllocation, someBadAllocation, badAction};
+ghost use Rattle.read_plant.specs.Plant.{recordAt, recordStart, recordRuling, plantRuling, allocationsOf, allocationCount};
 ghost use Rattle.base_rulings.specs.Order.{firstRefusal};
 
 // The last four bytes of a plant file: hex 50 4C 4E 54.

@@ -7,7 +7,7 @@ use mathlib.Core.Path.{_≡_, refl, sym, ap, _∙_}
 use mathlib.Core.Logic.{_⊎_, ⊎-elim}
 use mathlib.Core.Bool.{Bool, true, false, cond}
 use mathlib.Core.List.{List, [], _∷_, _++_, map, map-id, map-map, map-append, append-assoc, append-nil}
-use Prim.Native.Nat.{ℕ, zero, suc, _+_, _-_, _≤_, _<_}
+use Prim.Native.Nat.{ℕ, _+_, _-_, _≤_, _<_}
 use native.Mathlib.Decide.{decLt}
 use native.Mathlib.Omega.{arith}
 use lib.Dec.{ltb}
@@ -18,7 +18,8 @@ use Rattle.spec_plain.specs.declared.Rule.{Rule}
 use Rattle.spec_plain.specs.Plain
 use Rattle.spec_plain.specs.Rules.{RuleOn, named, renamed}
 use Rattle.spec_rulebook.specs.Reading.{Reading, bad, good, readingOf}
-use Rattle.spec_rulebook.specs.Book.{Book, Point, live, gone, Call, plan, send, clock, retire, made, reindexed, Refuses, Settles, Guarded, Plans, Reads, Sends, Retires, Step, Runs}
+use Rattle.spec_rulebook.specs.Book.{Book, Point, live, gone, Call, plan, send, clock, retire, made, reindexed, Refuses, Settles, Guarded, Plans}
+use Rattle.spec_rulebook.specs.Book.{Reads, Sends, Retires, Step, Runs}
 use Rattle.spec_rulebook.specs.Carried.{leavingNames, renaming, Carries}
 
 -- ---- where the m points from f on left

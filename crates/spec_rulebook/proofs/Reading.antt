@@ -1,7 +1,7 @@
 -- A plan's reading makes the fact check's tests. Assumes nothing.
 --   reading-rules     the reading is ruled as the fact check rules: it is bad by the check's cause, or good where the check accepts
 --   past-then         past one test and then another
-use mathlib.Core.Path.{_≡_, refl, sym, ap, _∙_}
+use mathlib.Core.Path.{_≡_, refl, ap, _∙_}
 use mathlib.Core.List.{List}
 use Prim.Native.Nat.{ℕ}
 use Rattle.base_rulings.specs.declared.Ruling.{Ruling}

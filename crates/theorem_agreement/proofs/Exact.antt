@@ -64,7 +64,8 @@ module _ (b : Board) (bk : Book) (x : Sim (abstractOf b) bk) where
         same = λ u. (λ t. meant u .0 (sim-same u .0 t), λ y. sim-same u .1 (meant u .1 y));
         gaps = λ i j hi hj. gap-over meant (sim-gap x i j hi hj);
         earliests = λ i hi. least-over meant (sim-least x i hi);
-        together = meant (soonest (tableOf (b .gaps))) .0 (subst (λ (k : Book). Possible k (soonest (tableOf (b .gaps)))) (sym (turned x)) (soonest-possible (x .holds)));
+        together = meant (soonest (tableOf (b .gaps))) .0
+            (subst (λ (k : Book). Possible k (soonest (tableOf (b .gaps)))) (sym (turned x)) (soonest-possible (x .holds)));
       }
 
 pub passed :

@@ -47,7 +47,8 @@ module _ (s : State) (n : ℕ) where
   unfolding full
   full-to le e = go (decLe mostJobs (length (s .jobs))) (decLe (total (s .jobs) + n) mostPoints)
     where
-      neither : length (s .jobs) < mostJobs → total (s .jobs) + n ≤ mostPoints → (leb mostJobs (length (s .jobs)) || ltb mostPoints (total (s .jobs) + n)) ≡ false
+      neither :
+          length (s .jobs) < mostJobs → total (s .jobs) + n ≤ mostPoints → (leb mostJobs (length (s .jobs)) || ltb mostPoints (total (s .jobs) + n)) ≡ false
       neither h d = rw (lt-leb mostJobs (length (s .jobs)) h, le-ltb mostPoints (total (s .jobs) + n) d)
 
       go : Dec (mostJobs ≤ length (s .jobs)) → Dec (total (s .jobs) + n ≤ mostPoints) → NoRoom s n
@@ -97,4 +98,7 @@ module _ (b : Board) (o : Offer) where
 
       go : (t : Bool) → (decided b (cond t (Draft.stop (plain 14)) (joining (stateOf b) o q)) .ruling ≡ refuse 14) ↔ (t ≡ true)
       go true = (λ e. refl, λ e. refl)
-      go false = (λ e. absurd (joining-other q (placed-other (stateOf b .settings) (liveCount (stateOf b)) 0 (o .allocations) (stateOf b .lines) []) e), λ e. absurd (false≢true e))
+      go false = (
+        λ e. absurd (joining-other q (placed-other (stateOf b .settings) (liveCount (stateOf b)) 0 (o .allocations) (stateOf b .lines) []) e),
+        λ e. absurd (false≢true e),
+      )

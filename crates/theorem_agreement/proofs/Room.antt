@@ -96,7 +96,8 @@ module _
     to-before : (v : Times) → Timetable d v → Renumbered v
     to-before v t =
         let fits = agree-fits (liveCount next) (tableOf (d .gaps)) (pick (oldNumber 1 (j .points)) (table b w s)) (answered .cells) v (rw few at (t .1)) in
-        let whole = spread-fits 1 (j .points) (liveCount next) (table b w s) v (omega arith) (live-positive next) (rw room at (closed b w s)) still (t .0) fits in (
+        let whole = spread-fits 1 (j .points) (liveCount next) (table b w s) v (omega arith) (live-positive next) (rw room at (closed b w s)) still
+        (t .0) fits in (
           spread 1 (j .points) (table b w s) v,
           (spread-origin 1 (j .points) (table b w s) v (omega arith) ∙ t .0, rw room whole),
           spread-old 1 (j .points) (table b w s) v,

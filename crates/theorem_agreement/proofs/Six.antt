@@ -23,7 +23,8 @@ use Rattle.base_masks.specs.Mask.{share, lowest}
 use Rattle.base_words.specs.Word.{word}
 use Rattle.read_facts.specs.Regression.{undoes, regressed, lacking, backOver, thenBack, workBack, atStart, onNeed, factRuling}
 use Rattle.read_plant.specs.Plant.{isMark, trailerOf, badLayout, recordStart, recordEnd, badRecord, badAction, recordAt, recordRuling, plantRuling}
-use Rattle.read_offer.specs.Offer.{stepCount, knownOf, goalOf, chainOf, stepStart, stepEnd, stepAt, stepRuling, offerRuling, consistencyRuling, chainRuling, factCheck}
+use Rattle.read_offer.specs.Offer.{stepCount, knownOf, goalOf, chainOf, stepStart, stepEnd, stepAt, stepRuling, offerRuling, consistencyRuling, chainRuling}
+use Rattle.read_offer.specs.Offer.{factCheck}
 use Rattle.spec_plain.specs.Plain.{Offer, State, Placed, Draft, Leaving, liveCount, full, newPoints, placed, joining, drafted, unsentAt, clockOk, leaving}
 use Rattle.spec_stn.specs.Table.{entailsAll}
 use Rattle.part_gaps.specs.Cells.{tableOf}
@@ -132,7 +133,8 @@ unfolding chainRuling factRuling atStart Need6
 chain-6 p o = go (knownOf o) (workBack (chainOf p o) 0 (goalOf o)) (back-6 (chainOf p o) 0 (goalOf o))
   where
     go : (known : Literals) (n : Need) → Need6 n → Not6 (onNeed known n)
-    go known (Facts l) x = cond-6 (eqb (lacking known l) 0) Accepted (refused 13 (lowest (lacking known l))) (is-not λ e. omega arith) (lacks (lowest (lacking known l)))
+    go known (Facts l) x =
+        cond-6 (eqb (lacking known l) 0) Accepted (refused 13 (lowest (lacking known l))) (is-not λ e. omega arith) (lacks (lowest (lacking known l)))
     go known (Clash c) x = x
 
 check-6 : (p o : List ℕ) → Not6 (factCheck p o)

@@ -41,16 +41,27 @@ unfoldable pub shownOpen : Unit {0}
 unfolding isAccepted kindOf sameRuling sameRulings readable sameCells allBelow sameBoards shown allShown
 shownOpen = tt
 
+-- a row and those behind it
+both : {A B : Type 0} → A → B → A × B
+both a b = (a, b)
+
 -- each of document 01's fifteen rows computes, and each of our own
 pub computed : AllCompute table
 unfolding computing shownOpen trailingZeros
 computed =
-    ((refl, refl, refl), ((refl, refl, refl), ((refl, refl, refl), ((refl, refl, refl), ((refl, refl, refl), ((refl, refl, refl), ((refl, refl, refl), ((refl, refl, refl), ((refl, refl, refl), ((refl, refl, refl), ((refl, refl, refl), ((refl, refl, refl), ((refl, refl, refl), ((refl, refl, refl), ((refl, refl, refl), tt)))))))))))))))
+    both (refl, refl, refl) (both (refl, refl, refl) (both (refl, refl, refl) (both (refl, refl, refl) (
+    both (refl, refl, refl) (both (refl, refl, refl) (both (refl, refl, refl) (both (refl, refl, refl) (
+    both (refl, refl, refl) (both (refl, refl, refl) (both (refl, refl, refl) (both (refl, refl, refl) (
+    both (refl, refl, refl) (both (refl, refl, refl) (both (refl, refl, refl) tt))))))))))))))
 
 pub further-computed : AllCompute furtherTable
 unfolding computing shownOpen trailingZeros
 further-computed =
-    ((refl, refl, refl), ((refl, refl, refl), ((refl, refl, refl), ((refl, refl, refl), ((refl, refl, refl), ((refl, refl, refl), ((refl, refl, refl), ((refl, refl, refl), ((refl, refl, refl), ((refl, refl, refl), ((refl, refl, refl), ((refl, refl, refl), ((refl, refl, refl), ((refl, refl, refl), ((refl, refl, refl), ((refl, refl, refl), ((refl, refl, refl), ((refl, refl, refl), tt))))))))))))))))))
+    both (refl, refl, refl) (both (refl, refl, refl) (both (refl, refl, refl) (both (refl, refl, refl) (
+    both (refl, refl, refl) (both (refl, refl, refl) (both (refl, refl, refl) (both (refl, refl, refl) (
+    both (refl, refl, refl) (both (refl, refl, refl) (both (refl, refl, refl) (both (refl, refl, refl) (
+    both (refl, refl, refl) (both (refl, refl, refl) (both (refl, refl, refl) (both (refl, refl, refl) (
+    both (refl, refl, refl) (both (refl, refl, refl) (tt))))))))))))))))))
 
 pub drafts-computed : AllDraft draftTable
 unfolding computing

@@ -11,9 +11,12 @@ use Rattle.base_rulings.specs.Order.{firstRefusal}
 use Rattle.base_words.specs.Word.{word}
 use Rattle.base_masks.specs.Mask.{share, join, strike, lowest}
 use Rattle.read_facts.specs.Regression.{undoes, regressed, backOver, lacking, atStart, factRuling}
-use Rattle.read_plant.specs.Plant.{isMark, trailerOf, badLayout, recordStart, badHead, badRecord, badDuration, badAllocation, someBadAllocation, badAction, recordAt, recordRuling, plantRuling}
+use Rattle.read_plant.specs.Plant.{isMark, trailerOf, badLayout, recordStart, badHead, badRecord, badDuration, badAllocation, someBadAllocation, badAction}
+use Rattle.read_plant.specs.Plant.{recordAt, recordRuling, plantRuling}
 use Rattle.read_offer.specs.Offer.{knownOf, goalOf, stepStart, stepAt, stepRuling, offerRuling, actionOf, chainFrom, consistencyRuling, chainRuling, factCheck}
-use Rattle.spec_plain.specs.Plain.{total, liveCount, notBefore, notAfter, overBy, inOrder, durations, orElse, afterNewest, batchRules, full, joining, drafted, inserted, ruleBefore, ruleAfter, usedFrom, placed, unsentAt, range, unsentPoints, sentUpTo, sentState, freeze, clockOk, clockState, starts, goes, newNumber, staying, without, endsBy, allEndBy, leavingFrom, leaving}
+use Rattle.spec_plain.specs.Plain.{total, liveCount, notBefore, notAfter, overBy, inOrder, durations, orElse, afterNewest, batchRules, full, joining}
+use Rattle.spec_plain.specs.Plain.{drafted, inserted, ruleBefore, ruleAfter, usedFrom, placed, unsentAt, range, unsentPoints, sentUpTo, sentState, freeze}
+use Rattle.spec_plain.specs.Plain.{clockOk, clockState, starts, goes, newNumber, staying, without, endsBy, allEndBy, leavingFrom, leaving}
 use Rattle.spec_stn.specs.Table.{earliest, latest, add, addAll, entailsAll, grow, growAll, pick, oldNumber}
 use Rattle.spec_rulebook.specs.Reading.{recordOf, stepOf, allocationOf, stepsFrom, allocationsOfStep, allocationsFrom, offerOf, past, readingOf}
 use Rattle.spec_rulebook.specs.Book as Rulebook

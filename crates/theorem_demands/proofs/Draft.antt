@@ -16,7 +16,8 @@ use Rattle.spec_plain.specs.declared.Allocation.{Allocation}
 use Rattle.spec_plain.specs.declared.Rule.{Rule}
 use Rattle.spec_plain.specs.declared.Step.{Step}
 use Rattle.spec_plain.specs.declared.Use.{Use}
-use Rattle.spec_plain.specs.Plain.{Offer, State, Placed, Draft, total, liveCount, notBefore, durations, full, newPoints, jobFrom, placed, joining, drafted, withJobs, withLines, trayGap, jobBatch, orElse, afterNewest, batchRules}
+use Rattle.spec_plain.specs.Plain.{Offer, State, Placed, Draft, total, liveCount, notBefore, durations, full, newPoints, jobFrom, placed, joining, drafted}
+use Rattle.spec_plain.specs.Plain.{withJobs, withLines, trayGap, jobBatch, orElse, afterNewest, batchRules}
 use Rattle.read_plant.specs.Plant.{allocationCount}
 use Rattle.read_offer.specs.Offer.{stepCount}
 use Rattle.spec_stn.specs.Table.{bias, Table, Still, Within}

@@ -127,7 +127,8 @@ module _ (b : Board) (k : Book) (m : Sim b k) where
       of-parts (λ (z : Book). Least z x v) (subst (Least (book (b .state) (k .rules)) x) (eqb-true _ _ (p .1)) (least-at (m .holds) x (ltb-true _ _ (p .0))))
   shown-meets (latest x v) e =
       let p = both-true (ltb x (Plain.liveCount (b .state))) _ e in
-      of-parts (λ (z : Book). Greatest z x v) (subst (Greatest (book (b .state) (k .rules)) x) (eqb-true _ _ (p .1)) (greatest-at (m .holds) x (ltb-true _ _ (p .0))))
+      of-parts (λ (z : Book). Greatest z x v)
+      (subst (Greatest (book (b .state) (k .rules)) x) (eqb-true _ _ (p .1)) (greatest-at (m .holds) x (ltb-true _ _ (p .0))))
   shown-meets (runs p o) e =
       let q = both-true (readable p o) _ e in
       readable-right p o (q .0) .0 (accepted-is (factCheck p o) (q .1))

@@ -6,7 +6,7 @@ use Rattle.cabi.proofs.sf_fresh.Statement.{statement}
 use Rattle.cabi.proofs.sf_fresh.Tie as tie
 
 returns : tie.Need-returns
-returns c = let answer = c .before .before .before .fresh .ensures in (c .number .ensures ∙ ap numberOf (answer .0), answer .1)
+returns c = let done : tie.After-fresh = search in let answer = done .fresh .ensures in (c .number .ensures ∙ ap numberOf (answer .0), answer .1)
 
 pub sf-fresh-spec : {M : Type 1} → statement M
 sf-fresh-spec = tie.close (tie.spec (λ c κs. search needs) (λ c κs. search needs) (λ c. search needs) returns)

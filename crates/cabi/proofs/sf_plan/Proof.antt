@@ -7,10 +7,8 @@ use Rattle.cabi.proofs.sf_plan.Statement.{statement}
 use Rattle.cabi.proofs.sf_plan.Tie as tie
 
 returns : tie.Need-returns
-returns c = let told = c .before .before .before in
-    let valued = told .before in
-    let planned = valued .before .before .before .before in
-    let entry = planned .before .before .before .before .before .before in
+returns c = let told : tie.After-write-cause = search in let valued : tie.After-value = search in
+    let planned : tie.After-plan = search in let entry : tie.Start = search in
     let answer = planned .plan .ensures in
     let value = valued .value .ensures ∙ ap valueOf (answer .0) in
     (c .number .ensures ∙ ap numberOf (answer .0), (answer .1, told .write-cause .ensures ∙ ap (set (entry .args .cause .now) 0) value))

@@ -16,36 +16,39 @@ use Rattle.call_planning.proofs.plan.Statement.{statement}
 use Rattle.call_planning.proofs.plan.Tie as tie
 
 returns : tie.Need-returns
-returns c = let entry = c .before .before .before .before .before .before .before .args in
-    unanswered (entry .w .now) _ _ _
-    (bad-plant (lentBoard (entry .w .now)) (entry .plant .now) (entry .offer .now) _
-    (sym (c .before .before .before .check-plant .ensures) ∙ c .before .first .given .1))
+returns c = let at-check-plant : tie.After-check-plant = search in let entry : tie.Start = search in
+    unanswered (entry .args .w .now) _ _ _
+    (bad-plant (lentBoard (entry .args .w .now)) (entry .args .plant .now) (entry .args .offer .now) _
+    (sym (at-check-plant .check-plant .ensures) ∙ c .before .first .given .1))
 
 returns-2 : tie.Need-returns-2
-returns-2 c = let entry = c .before .before .before .before .before .before .before .before .before .args in
-    unanswered (entry .w .now) _ _ (plain 6)
-    (unsound (lentBoard (entry .w .now)) (entry .plant .now) (entry .offer .now)
-    (sym (c .before .before .before .before .before .check-plant .ensures) ∙ c .before .before .before .enum-told .given .1)
+returns-2 c =
+    let at-enum-told : tie.After-enum-told = search in let at-check-plant : tie.After-check-plant = search in let entry : tie.Start = search in
+    unanswered (entry .args .w .now) _ _ (plain 6)
+    (unsound (lentBoard (entry .args .w .now)) (entry .args .plant .now) (entry .args .offer .now)
+    (sym (at-check-plant .check-plant .ensures) ∙ at-enum-told .enum-told .given .1)
     (sym (c .before .is-sound .ensures) ∙ not-true _ (c .if1 .taken)))
 
 read-trailer-requires : tie.Need-read-trailer-requires
-read-trailer-requires c κs = good _ (sym (c .before .before .before .before .before .before .check-plant .ensures) ∙ c .before .before .before .before .enum-told .given .1) .long
+read-trailer-requires c κs = let at-enum-told : tie.After-enum-told = search in let at-check-plant : tie.After-check-plant = search in
+    good _ (sym (at-check-plant .check-plant .ensures) ∙ at-enum-told .enum-told .given .1) .long
 
 plan-offer-requires : tie.Need-plan-offer-requires
-plan-offer-requires c κs = let tested = c .before .before .before in
-    let plant = tested .before .before .before .before in
+plan-offer-requires c κs =
+    let at-enum-told : tie.After-enum-told = search in let tested : tie.After-is-sound = search in let plant : tie.After-check-plant = search in
     let board = lent-sound _ (sym (tested .is-sound .ensures) ∙ not-false _ (c .before .before .if1 .left)) in
-    (board .0, (board .1, (sym (plant .check-plant .ensures) ∙ tested .before .before .enum-told .given .1), c .read-trailer .ensures .0))
+    (board .0, (board .1, (sym (plant .check-plant .ensures) ∙ at-enum-told .enum-told .given .1), c .read-trailer .ensures .0))
 
 returns-3 : tie.Need-returns-3
-returns-3 c = let tested = c .before .before .before .before .before .before in
-    let plant = tested .before .before .before .before in
-    let entry = plant .before .before .before .before .args in
-    let w = entry .w .now in
-    let good = sym (plant .check-plant .ensures) ∙ tested .before .before .enum-told .given .1 in
-    let pass = sym (tested .is-sound .ensures) ∙ not-false _ (c .before .before .before .before .before .if1 .left) in
-    let heard-so = lent-answer w pass (λ b. heard b (readingOf (stateOf b) (entry .plant .now) (entry .offer .now))) _ _ (c .before .before .plan-offer .ensures .0) (c .before .before .plan-offer .ensures .1) in
-    let is = on-reading (lentBoard w) (entry .plant .now) (entry .offer .now) good pass in
+returns-3 c =
+    let at-plan-offer : tie.After-plan-offer = search in let at-if1 : tie.Else1 = search in let at-enum-told : tie.After-enum-told = search in
+    let entry : tie.Start = search in let tested : tie.After-is-sound = search in let plant : tie.After-check-plant = search in
+    let w = entry .args .w .now in
+    let good = sym (plant .check-plant .ensures) ∙ at-enum-told .enum-told .given .1 in
+    let pass = sym (tested .is-sound .ensures) ∙ not-false _ (at-if1 .if1 .left) in
+    let heard-so = lent-answer w pass (λ b. heard b (readingOf (stateOf b) (entry .args .plant .now) (entry .args .offer .now))) _ _
+    (at-plan-offer .plan-offer .ensures .0) (at-plan-offer .plan-offer .ensures .1) in
+    let is = on-reading (lentBoard w) (entry .args .plant .now) (entry .args .offer .now) good pass in
     (heard-so .0 ∙ ap (λ (r : Ruled). r .ruling) is, heard-so .1 ∙ ap (wordsAfter w) is)
 
 pub plan-spec : {M : Type 1} → statement M

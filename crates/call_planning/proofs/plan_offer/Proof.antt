@@ -1,10 +1,15 @@
 -- `plan_offer` meets its contract: the reading of the offer, refusal by refusal, and then its job.
 use native.Mathlib.Omega.{arith}
 use borrow.Author.Needs.{needs}
-use mathlib.Core.Path.{sym, _∙_, ap}
+use mathlib.Core.Path.{_≡_, sym, _∙_, ap}
+use Prim.Native.Nat.{_≤_}
+use lib.ListN.{length}
+use Rattle.base_rulings.specs.declared.Ruling.the-variants.{Accepted}
+use Rattle.read_offer.specs.Offer.{offerRuling, consistencyRuling, chainRuling}
 use Rattle.read_offer.proofs.Steps.{read-of}
 use Rattle.spec_rulebook.specs.Reading.{offerOf}
 use Rattle.spec_plain.specs.Plain.{Offer, drafted}
+use Rattle.part_offered.specs.Sized.{SizedOffer}
 use Rattle.part_offered.proofs.Sized.{offer-sized}
 use Rattle.part_boardwords.specs.Words.{boardIn}
 use Rattle.call_board.specs.Ruled.{Ruled}
@@ -17,124 +22,93 @@ use Rattle.call_planning.proofs.plan_offer.Statement.{statement}
 use Rattle.call_planning.proofs.plan_offer.Tie as tie
 
 returns : tie.Need-returns
-returns c =
-    let entry = c .before .before .before .before .before .before .before in
-    let A = entry .args in
-    let P = entry .pre in
-    let read = sym (c .before .before .before .read-offer .ensures) ∙ c .before .format .given .1 in
-    unanswered (A .w .now) _ _ _ (bad-format (boardIn (A .w .now)) (A .plant .now) (A .offer .now) (P .1 .1) _ read)
+returns c = let format : tie.After-read-offer = search in
+    let entry : tie.Start = search in let A = entry .args in
+    let read = sym (format .read-offer .ensures) ∙ c .before .format .given .1 in
+    unanswered (A .w .now) _ _ _ (bad-format (boardIn (A .w .now)) (A .plant .now) (A .offer .now) (entry .pre .1 .1) _ read)
+
+-- past the reading: the offer's format is good
+abbrev entry-of : tie.After-enum-told → tie.Start
+entry-of c = search
+
+format-good : (c : tie.After-enum-told) → offerRuling (entry-of c .args .plant .now) (entry-of c .args .offer .now) ≡ Accepted
+format-good c = cc
+
+offer-long : (c : tie.After-enum-told) → 24 ≤ length (entry-of c .args .offer .now)
+offer-long c = read-of (entry-of c .args .plant .now) (entry-of c .args .offer .now) (format-good c) .long
 
 check-consistency-requires : tie.Need-check-consistency-requires
-check-consistency-requires c κs =
-    let told = c in
-    let format = told .before .before in
-    let entry = format .before .before .before .before in
-    let A = entry .args in
-    let P = entry .pre in
-    let read = sym (format .read-offer .ensures) ∙ told .enum-told .given .1 in
-    read-of (A .plant .now) (A .offer .now) read .long
+check-consistency-requires c κs = offer-long c
 
 returns-2 : tie.Need-returns-2
-returns-2 c =
-    let told = c .before .before .before .before in
-    let format = told .before .before in
-    let entry = format .before .before .before .before in
-    let A = entry .args in
-    let P = entry .pre in
-    let read = sym (format .read-offer .ensures) ∙ told .enum-told .given .1 in
-    let facts = sym (c .before .before .before .check-consistency .ensures) ∙ c .before .facts .given .1 in
-    unanswered (A .w .now) _ _ _ (bad-facts (boardIn (A .w .now)) (A .plant .now) (A .offer .now) (P .1 .1) read _ facts)
+returns-2 c = let checked : tie.After-check-consistency = search in
+    let read : tie.After-enum-told = search in
+    let entry = entry-of read in let A = entry .args in
+    let facts = sym (checked .check-consistency .ensures) ∙ c .before .facts .given .1 in
+    unanswered (A .w .now) _ _ _ (bad-facts (boardIn (A .w .now)) (A .plant .now) (A .offer .now) (entry .pre .1 .1) (format-good read) _ facts)
 
 check-chain-requires : tie.Need-check-chain-requires
-check-chain-requires c κs =
-    let told = c .before .before .before in
-    let format = told .before .before in
-    let entry = format .before .before .before .before in
-    let A = entry .args in
-    let P = entry .pre in
-    let read = sym (format .read-offer .ensures) ∙ told .enum-told .given .1 in
-    (P .1 .1, P .1 .2, read)
+check-chain-requires c κs = (search, search, (cc))
+
+-- past the check of its facts
+abbrev read-before : tie.After-enum-told2 → tie.After-enum-told
+read-before c = search
+
+consistent : (c : tie.After-enum-told2) → consistencyRuling (entry-of (read-before c) .args .offer .now) ≡ Accepted
+consistent c = cc
 
 returns-3 : tie.Need-returns-3
-returns-3 c =
-    let told = c .before .before .before .before .before .before .before in
-    let format = told .before .before in
-    let entry = format .before .before .before .before in
-    let A = entry .args in
-    let P = entry .pre in
-    let read = sym (format .read-offer .ensures) ∙ told .enum-told .given .1 in
-    let sound = c .before .before .before .before in
-    let consistent = sym (sound .before .before .check-consistency .ensures) ∙ sound .enum-told2 .given .1 in
-    let chain = sym (c .before .before .before .check-chain .ensures) ∙ c .before .chain .given .1 in
-    unanswered (A .w .now) _ _ _ (bad-chain (boardIn (A .w .now)) (A .plant .now) (A .offer .now) (P .1 .1) read consistent _ chain)
+returns-3 c = let checked : tie.After-check-chain = search in
+    let sound : tie.After-enum-told2 = search in
+    let read = read-before sound in
+    let entry = entry-of read in let A = entry .args in
+    let chain = sym (checked .check-chain .ensures) ∙ c .before .chain .given .1 in
+    unanswered (A .w .now) _ _ _
+    (bad-chain (boardIn (A .w .now)) (A .plant .now) (A .offer .now) (entry .pre .1 .1) (format-good read) (consistent sound) _ chain)
 
 read-durations-requires : tie.Need-read-durations-requires
-read-durations-requires c κs =
-    let told = c .before .before .before .before .before .before in
-    let format = told .before .before in
-    let entry = format .before .before .before .before in
-    let A = entry .args in
-    let P = entry .pre in
-    let read = sym (format .read-offer .ensures) ∙ told .enum-told .given .1 in
-    (P .1 .1, P .1 .2, read)
+read-durations-requires c κs = (search, search, (cc))
 
 read-allocations-requires : tie.Need-read-allocations-requires
-read-allocations-requires c κs =
-    let told = c .before .before .before .before .before .before .before .before in
-    let format = told .before .before in
-    let entry = format .before .before .before .before in
-    let A = entry .args in
-    let P = entry .pre in
-    let read = sym (format .read-offer .ensures) ∙ told .enum-told .given .1 in
-    (P .1 .1, P .1 .2, read, (search needs))
+read-allocations-requires c κs = (search, search, (cc), (search needs))
 
 u32-at-requires : tie.Need-u32-at-requires
-u32-at-requires c κs =
-    let told = c .before .before .before .before .before .before .before .before .before .before .before in
-    let format = told .before .before in
-    let entry = format .before .before .before .before in
-    let A = entry .args in
-    let P = entry .pre in
-    let read = sym (format .read-offer .ensures) ∙ told .enum-told .given .1 in
-    omega (arith, read-of (A .plant .now) (A .offer .now) read .long)
+u32-at-requires c κs = let read : tie.After-enum-told = search in omega (arith, offer-long read)
+
+-- past the check of its chain
+chain-runs :
+    (c : tie.After-enum-told3) → (let entry : tie.Start = search in chainRuling (entry .args .plant .now) (entry .args .offer .now) ≡ Accepted)
+chain-runs c = cc
+
+-- the offer that was read
+sized-at : (c : tie.After-enum-told) → SizedOffer (offerOf (entry-of c .args .plant .now) (entry-of c .args .offer .now))
+sized-at c = let entry = entry-of c in offer-sized (entry .args .plant .now) (entry .args .offer .now) (entry .pre .1 .1) (format-good c)
 
 plan-job-requires : tie.Need-plan-job-requires
 unfolding offerOf
-plan-job-requires c κs =
-    let told = c .before .before .before .before .before .before .before .before .before .before .before .before .before in
-    let format = told .before .before in
-    let entry = format .before .before .before .before in
-    let A = entry .args in
-    let P = entry .pre in
-    let read = sym (format .read-offer .ensures) ∙ told .enum-told .given .1 in
-    let o = offerOf (A .plant .now) (A .offer .now) in
-    let sized = offer-sized (A .plant .now) (A .offer .now) (P .1 .1) read in
-    let es = c .before .before .before .before .before .before .read-durations .ensures in
-    let ep = c .before .before .before .before .read-allocations .ensures in
+plan-job-requires c κs = let placed : tie.After-read-allocations = search in let ep = placed .read-allocations .ensures in
+    let durations : tie.After-read-durations = search in let es = durations .read-durations .ensures in
+    let read : tie.After-enum-told = search in
+    let entry = entry-of read in
+    let o = offerOf (entry .args .plant .now) (entry .args .offer .now) in
+    let sized = sized-at read in
     let held = held-offer o sized _ es _ _ (c .before .u32-at .ensures) ep in
-    (P .0, (P .1 .0, held-list o sized _ es, held-count o sized _ es .1, held-read o sized _ _ (search needs) ep, rw held sized))
+    (entry .pre .0, (entry .pre .1 .0, held-list o sized _ es, held-count o sized _ es .1, held-read o sized _ _ (search needs) ep, rw held sized))
 
 returns-4 : tie.Need-returns-4
 unfolding offerOf
-returns-4 c =
-    let told = c .before .before .before .before .before .before .before .before .before .before .before .before .before .before .before .before in
-    let format = told .before .before in
-    let entry = format .before .before .before .before in
-    let A = entry .args in
-    let P = entry .pre in
-    let read = sym (format .read-offer .ensures) ∙ told .enum-told .given .1 in
-    let sound = c .before .before .before .before .before .before .before .before .before .before .before .before .before in
-    let consistent = sym (sound .before .before .check-consistency .ensures) ∙ sound .enum-told2 .given .1 in
-    let durations = c .before .before .before .before .before .before .before .before .before in
-    let checked = durations .before in
-    let chain = sym (checked .before .before .check-chain .ensures) ∙ checked .enum-told3 .given .1 in
+returns-4 c = let batch : tie.After-u32-at = search in
+    let placed : tie.After-read-allocations = search in
+    let durations : tie.After-read-durations = search in
+    let checked : tie.After-enum-told3 = search in
+    let sound : tie.After-enum-told2 = search in
+    let read = read-before sound in
+    let entry = entry-of read in let A = entry .args in
     let b = boardIn (A .w .now) in
     let o = offerOf (A .plant .now) (A .offer .now) in
-    let sized = offer-sized (A .plant .now) (A .offer .now) (P .1 .1) read in
-    let batch = c .before .before .before .before in
-    let placed = batch .before .before .before in
-    let held = held-offer o sized _ (durations .read-durations .ensures) _ _ (batch .u32-at .ensures) (placed .read-allocations .ensures) in
-    let is = ap (λ (z : Offer). decided b (drafted (stateOf b) z)) held ∙ chain-good b (A .plant .now) (A .offer .now) (P .1 .1) read consistent chain in
+    let held = held-offer o (sized-at read) _ (durations .read-durations .ensures) _ _ (batch .u32-at .ensures) (placed .read-allocations .ensures) in
+    let good = chain-good b (A .plant .now) (A .offer .now) (entry .pre .1 .1) (format-good read) (consistent sound) (chain-runs checked) in
+    let is = ap (λ (z : Offer). decided b (drafted (stateOf b) z)) held ∙ good in
     let planned = c .before .before .plan-job .ensures in
     (planned .0 ∙ ap (λ (r : Ruled). r .ruling) is, planned .1 ∙ ap (wordsAfter (A .w .now)) is)
 

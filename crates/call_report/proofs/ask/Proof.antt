@@ -9,39 +9,35 @@ use Rattle.call_report.proofs.ask.Statement.{statement}
 use Rattle.call_report.proofs.ask.Tie as tie
 
 returns : tie.Need-returns
-returns c = let A = c .before .before .before .args in c .refused .ensures ∙ asked-other (A .w .now) (A .room) (c .before .if1 .taken)
+returns c = let entry : tie.Start = search in
+    c .refused .ensures ∙ asked-other (entry .args .w .now) (entry .args .room) (c .before .if1 .taken)
 
 returns-2 : tie.Need-returns-2
-returns-2 c =
+returns-2 c = let entry : tie.Start = search in
     let test = c .before in
-    let whole = test .before .before in
-    let A = whole .before .before .args in
-    let unsound = sym (test .before .is-sound-in .ensures) ∙ not-true _ (test .if2 .taken) in
-    c .refused2 .ensures ∙ asked-unsound (A .w .now) (A .room) (whole .if1 .left) unsound
+    let whole : tie.Else1 = search in
+    let unsound = sym (c .before .before .is-sound-in .ensures) ∙ not-true _ (test .if2 .taken) in
+    c .refused2 .ensures ∙ asked-unsound (entry .args .w .now) (entry .args .room) (whole .if1 .left) unsound
 
 points-in-requires : tie.Need-points-in-requires
-points-in-requires c κs =
-    let b = boardIn (c .before .before .before .before .args .w .now) in
+points-in-requires c κs = let entry : tie.Start = search in
+    let b = boardIn (entry .args .w .now) in
     let sound = sym (c .before .is-sound-in .ensures) ∙ not-false _ (c .if2 .left) in
     (search needs, sound-sized b sound .count, sound-few b sound)
 
 returns-3 : tie.Need-returns-3
-returns-3 c =
-    let counted = c .before .before in
-    let test = counted .before in
-    let whole = test .before .before in
-    let A = whole .before .before .args in
-    let sound = sym (test .before .is-sound-in .ensures) ∙ not-false _ (test .if2 .left) in
+returns-3 c = let at-is-sound-in : tie.After-is-sound-in = search in let entry : tie.Start = search in let counted : tie.After-points-in = search in
+    let test : tie.Else2 = search in let whole : tie.Else1 = search in let A = entry .args in
+    let sound = sym (at-is-sound-in .is-sound-in .ensures) ∙ not-false _ (test .if2 .left) in
     c .refused3 .ensures ∙ asked-short (A .w .now) (A .room) (whole .if1 .left) sound _ (counted .points-in .ensures) (c .before .if3 .taken)
 
 returns-4 : tie.Need-returns-4
-returns-4 c =
+returns-4 c = let at-is-sound-in : tie.After-is-sound-in = search in let entry : tie.Start = search in
     let counted = c .before in
-    let test = counted .before in
-    let whole = test .before .before in
-    let A = whole .before .before .args in
-    let sound = sym (test .before .is-sound-in .ensures) ∙ not-false _ (test .if2 .left) in
-    asked-rows (A .w .now) (A .room) (whole .if1 .left) sound _ (counted .points-in .ensures) (c .if3 .left)
+    let test : tie.Else2 = search in
+    let whole : tie.Else1 = search in
+    let sound = sym (at-is-sound-in .is-sound-in .ensures) ∙ not-false _ (test .if2 .left) in
+    asked-rows (entry .args .w .now) (entry .args .room) (whole .if1 .left) sound _ (counted .points-in .ensures) (c .if3 .left)
 
 pub ask-spec : {M : Type 1} → statement M
 ask-spec =

@@ -6,16 +6,16 @@ use Rattle.call_report.proofs.next.Statement.{statement}
 use Rattle.call_report.proofs.next.Tie as tie
 
 returns : tie.Need-returns
-returns c =
+returns c = let entry : tie.Start = search in
     let branch = c .before in
-    let call = branch .before .before .before in
-    after-point (wordIn (call .before .before .before .args .w .now)) (call .before .before .before .args .at) _ (call .job-at .ensures) (branch .if1 .taken)
+    let call : tie.After-job-at = search in
+    after-point (wordIn (entry .args .w .now)) (entry .args .at) _ (call .job-at .ensures) (branch .if1 .taken)
 
 returns-2 : tie.Need-returns-2
-returns-2 c =
+returns-2 c = let entry : tie.Start = search in
     let branch = c .before in
-    let call = branch .before .before .before in
-    after-job (wordIn (call .before .before .before .args .w .now)) (call .before .before .before .args .at) _ (call .job-at .ensures) (branch .if1 .left)
+    let call : tie.After-job-at = search in
+    after-job (wordIn (entry .args .w .now)) (entry .args .at) _ (call .job-at .ensures) (branch .if1 .left)
 
 pub next-spec : {M : Type 1} → statement M
 next-spec =

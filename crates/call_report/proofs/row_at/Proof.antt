@@ -8,7 +8,7 @@ use Rattle.call_report.proofs.row_at.Tie as tie
 returns : tie.Need-returns
 returns c =
     let early = c .before in
-    let entry = early .before .before .before in
+    let entry : tie.Start = search in
     let A = entry .args in
     row-lent (A .w .now) (A .at .place) (A .at .point) (A .k + 1) _ _ (entry .pre .0) (early .earliest .ensures) (c .latest .ensures)
 

@@ -26,47 +26,38 @@ abbrev μ-loop : tie.MeasureT-loop
 
 loop-holds : tie.Need-loop-holds Inv-loop μ-loop
 unfolding cursor
-loop-holds c =
-    let size : length (c .before .before .args .rows) ≡ mostPoints = search (needs, length-mapped) in
-    (omega arith, sym (laid-none (rowsOf (boardIn (c .before .before .args .w .now))) (c .before .before .args .rows)), c .first .ensures, size)
+loop-holds c = let entry : tie.Start Inv-loop μ-loop = search in
+    let size : length (entry .args .rows) ≡ mostPoints = search (needs, length-mapped) in
+    (omega arith, sym (laid-none (rowsOf (boardIn (entry .args .w .now))) (entry .args .rows)), c .first .ensures, size)
 
 row-at-requires : tie.Need-row-at-requires Inv-loop μ-loop
-row-at-requires c κs =
-    let entry = c .before .before .before .before in
-    let fits = cursor-fits (wordIn (entry .args .w .now)) (entry .pre .1) (c .before .loop .k) (omega (arith, entry .pre .2)) in
+row-at-requires c κs = let entry : tie.Start Inv-loop μ-loop = search in
+    let fits = cursor-fits (wordIn (entry .args .w .now)) (entry .pre .1) (c .before .loop .k) (omega arith) in
     (entry .pre .0, fits .0)
 
 mul-next-rows : tie.Need-mul-next-rows Inv-loop μ-loop
-mul-next-rows c =
-    let entry = c .before .before .before .before .before in
-    omega (arith, entry .pre .2, rows-few (boardIn (entry .args .w .now)) (entry .pre .1))
+mul-next-rows c = let entry : tie.Start Inv-loop μ-loop = search in omega (arith, rows-few (boardIn (entry .args .w .now)) (entry .pre .1))
 
 array-set-from-next-rows : tie.Need-array-set-from-next-rows Inv-loop μ-loop
-array-set-from-next-rows c =
-    let entry = c .before .before .before .before .before in
-    omega (arith, entry .pre .2, rows-few (boardIn (entry .args .w .now)) (entry .pre .1))
+array-set-from-next-rows c = let entry : tie.Start Inv-loop μ-loop = search in
+    omega (arith, rows-few (boardIn (entry .args .w .now)) (entry .pre .1))
 
 next-requires : tie.Need-next-requires Inv-loop μ-loop
-next-requires c κs =
-    let entry = c .before .before .before .before .before in
+next-requires c κs = let entry : tie.Start Inv-loop μ-loop = search in
     let L = c .before .before .loop in
-    let fits = cursor-fits (wordIn (entry .args .w .now)) (entry .pre .1) (L .k) (omega (arith, entry .pre .2)) in
+    let fits = cursor-fits (wordIn (entry .args .w .now)) (entry .pre .1) (L .k) (omega arith) in
     let at = L .inv .2 in
     (entry .pre .0, omega (arith, fits, ap (λ (a : Cursor). a .place) at), omega (arith, fits, ap (λ (a : Cursor). a .point) at))
 
 add-k : tie.Need-add-k Inv-loop μ-loop
-add-k c =
-    let entry = c .before .before .before .before .before .before in
-    omega (arith, entry .pre .2, rows-few (boardIn (entry .args .w .now)) (entry .pre .1))
+add-k c = let entry : tie.Start Inv-loop μ-loop = search in omega (arith, rows-few (boardIn (entry .args .w .now)) (entry .pre .1))
 
 loop-again : tie.Need-loop-again Inv-loop μ-loop
 unfolding cursor
-loop-again c =
-    let entry = c .before .before .before .before .before .before in
-    let L = c .before .before .before .loop in
+loop-again c = let at-loop : tie.At-loop Inv-loop μ-loop = search in let entry : tie.Start Inv-loop μ-loop = search in let L = at-loop .loop in
     let words = wordIn (entry .args .w .now) in
     let rows = rowsOf (boardIn (entry .args .w .now)) in
-    let less : L .k < length rows = omega (arith, entry .pre .2) in
+    let less : L .k < length rows = omega arith in
     let at = L .inv .2 in
     let row = c .before .row-at .ensures ∙ ap (λ (a : Cursor). rowOf (tableOf (cellsRead words)) (a .place) (a .point)
     (L .k + 1)) at ∙ cursor-row words (entry .pre .1) (L .k) less in
@@ -78,8 +69,8 @@ loop-again c =
     )
 
 returns : tie.Need-returns Inv-loop μ-loop
-returns c =
-    let end : c .before .loop .k ≡ c .before .before .before .before .args .n = omega arith in
+returns c = let entry : tie.Start Inv-loop μ-loop = search in
+    let end : c .before .loop .k ≡ entry .args .n = omega arith in
     rw (← end) (c .before .loop .inv .1)
 
 pub store-spec : {M : Type 1} → statement M

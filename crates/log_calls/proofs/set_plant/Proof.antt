@@ -6,8 +6,9 @@ use Rattle.log_calls.proofs.set_plant.Statement.{statement}
 use Rattle.log_calls.proofs.set_plant.Tie as tie
 
 returns-2 : tie.Need-returns-2
-returns-2 c = let held = rw (c .before .before .bytes .given .1) at (c .before .before .before .before .before .before .decode-hex .ensures .1) in
-    simp length-append (omega (arith, held .0))
+returns-2 c = let at-decode-hex : tie.After-decode-hex = search in
+    let held = rw (c .before .before .bytes .given .1) at (at-decode-hex .decode-hex .ensures .1) in
+    simp length-append (omega arith)
 
 pub set-plant-spec : {M : Type 1} → statement M
 set-plant-spec =

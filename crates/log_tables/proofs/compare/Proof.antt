@@ -10,23 +10,22 @@ returns : tie.Need-returns
 returns c = first-unsound _ _ (breaks (c .before .is-sound .ensures) (c .if1 .taken))
 
 returns-2 : tie.Need-returns-2
-returns-2 c =
-    let first = c .before .before in
-    second-unsound _ _ (holds (first .before .is-sound .ensures) (first .if1 .left)) (breaks (c .before .is-sound2 .ensures) (c .if2 .taken))
+returns-2 c = let at-is-sound : tie.After-is-sound = search in let first : tie.Else1 = search in
+    second-unsound _ _ (holds (at-is-sound .is-sound .ensures) (first .if1 .left)) (breaks (c .before .is-sound2 .ensures) (c .if2 .taken))
 
 compare-sound-requires : tie.Need-compare-sound-requires
-compare-sound-requires c κs =
-    let first = c .before .before in (
-      lent-sound _ (holds (first .before .is-sound .ensures) (first .if1 .left)),
+compare-sound-requires c κs = let at-is-sound : tie.After-is-sound = search in
+    let first : tie.Else1 = search in (
+      lent-sound _ (holds (at-is-sound .is-sound .ensures) (first .if1 .left)),
       lent-sound _ (holds (c .before .is-sound2 .ensures) (c .if2 .left)),
     )
 
 returns-3 : tie.Need-returns-3
-returns-3 c =
+returns-3 c = let at-is-sound : tie.After-is-sound = search in
     let second = c .before in
-    let first = second .before .before in
-    let left = holds (first .before .is-sound .ensures) (first .if1 .left) in
-    let right = holds (second .before .is-sound2 .ensures) (second .if2 .left) in
+    let first : tie.Else1 = search in
+    let left = holds (at-is-sound .is-sound .ensures) (first .if1 .left) in
+    let right = holds (c .before .before .is-sound2 .ensures) (second .if2 .left) in
     c .compare-sound .ensures ∙ lent-compared _ _ left right
 
 pub compare-spec : {M : Type 1} → statement M

@@ -6,14 +6,12 @@ use Rattle.log_tables.proofs.compare_cells.Statement.{statement}
 use Rattle.log_tables.proofs.compare_cells.Tie as tie
 
 returns : tie.Need-returns
-returns c =
-    let A = c .before .before .before .before .args in
-    no-entry (A .a .now) (A .b .now) _ (c .before .first-difference .ensures) (omega arith)
+returns c = let entry : tie.Start = search in
+    no-entry (entry .args .a .now) (entry .args .b .now) _ (c .before .first-difference .ensures) (omega arith)
 
 returns-2 : tie.Need-returns-2
-returns-2 c =
-    let A = c .before .before .before .before .before .before .args in
-    first-entry (A .a .now) (A .b .now) _ (c .before .before .before .first-difference .ensures) (omega arith)
+returns-2 c = let at-first-difference : tie.After-first-difference = search in let entry : tie.Start = search in
+    first-entry (entry .args .a .now) (entry .args .b .now) _ (at-first-difference .first-difference .ensures) (omega arith)
 
 pub compare-cells-spec : {M : Type 1} → statement M
 compare-cells-spec =

@@ -11,47 +11,39 @@ use Rattle.log_tables.proofs.compare_sound.Statement.{statement}
 use Rattle.log_tables.proofs.compare_sound.Tie as tie
 
 points-in-requires : tie.Need-points-in-requires
-points-in-requires c κs =
-    let start = c .before .before in
+points-in-requires c κs = let start : tie.Start = search in
     let a = boardIn (start .args .a .now) in
-    (omega (arith, start .pre .0 .0), sound-sized a (start .pre .0 .1) .count, sound-few a (start .pre .0 .1))
+    (omega arith, sound-sized a (start .pre .0 .1) .count, sound-few a (start .pre .0 .1))
 
 add-n : tie.Need-add-n
-add-n c =
-    let start = c .before .before .before in
+add-n c = let start : tie.Start = search in
     let few = sound-sized (boardIn (start .args .a .now)) (start .pre .0 .1) .points in
-    omega (arith, few, c .points-in .ensures)
+    omega (arith, few)
 
 points-in-requires-2 : tie.Need-points-in-requires-2
-points-in-requires-2 c κs =
-    let start = c .before .before .before in
+points-in-requires-2 c κs = let start : tie.Start = search in
     let b = boardIn (start .args .b .now) in
-    (omega (arith, start .pre .1 .0), sound-sized b (start .pre .1 .1) .count, sound-few b (start .pre .1 .1))
+    (omega arith, sound-sized b (start .pre .1 .1) .count, sound-few b (start .pre .1 .1))
 
 add-m : tie.Need-add-m
-add-m c =
-    let start = c .before .before .before .before in
+add-m c = let start : tie.Start = search in
     let few = sound-sized (boardIn (start .args .b .now)) (start .pre .1 .1) .points in
-    omega (arith, few, c .points-in2 .ensures)
+    omega (arith, few)
 
 returns : tie.Need-returns
 returns c =
     let second = c .before in
-    let first = second .before in
-    let start = first .before .before .before in
+    let first : tie.After-points-in = search in
+    let start : tie.Start = search in
     other-points (boardIn (start .args .a .now)) (boardIn (start .args .b .now)) (start .pre .0 .1) (start .pre .1 .1) (first .points-in .ensures)
     (second .points-in2 .ensures) (λ e. omega (arith, e))
 
 compare-cells-requires : tie.Need-compare-cells-requires
-compare-cells-requires c κs =
-    let start = c .before .before .before .before .before .before .before in
+compare-cells-requires c κs = let start : tie.Start = search in
     (length-lent (start .args .a .now) (start .pre .0 .0), length-lent (start .args .b .now) (start .pre .1 .0))
 
 returns-2 : tie.Need-returns-2
-returns-2 c =
-    let second = c .before .before .before .before in
-    let first = second .before in
-    let start = first .before .before .before in
+returns-2 c = let second : tie.After-points-in2 = search in let first : tie.After-points-in = search in let start : tie.Start = search in
     let a = start .args .a .now in
     let b = start .args .b .now in
     c .compare-cells .ensures

@@ -18,16 +18,12 @@ loop-holds : tie.Need-loop-holds Inv-loop μ-loop
 loop-holds c = (omega arith, alike-none (c .args .a .now) (c .args .b .now))
 
 returns : tie.Need-returns Inv-loop μ-loop
-returns c =
-    let L = c .before .before .before .before .loop in
-    let A = c .before .before .before .before .before .args in
-    first-at (A .a .now) (A .b .now) (L .k) (omega arith) (omega arith) (L .inv .1) (c .if1 .taken)
+returns c = let at-loop : tie.At-loop Inv-loop μ-loop = search in let entry : tie.Start Inv-loop μ-loop = search in
+    first-at (entry .args .a .now) (entry .args .b .now) (at-loop .loop .k) (omega arith) (omega arith) (at-loop .loop .inv .1) (c .if1 .taken)
 
 loop-again : tie.Need-loop-again Inv-loop μ-loop
-loop-again c =
-    let L = c .before .before .before .before .loop in
-    let A = c .before .before .before .before .before .args in
-    (omega arith, alike-next (A .a .now) (A .b .now) (L .k) (L .k + 1) (L .inv .1) (c .if1 .left) refl)
+loop-again c = let at-loop : tie.At-loop Inv-loop μ-loop = search in let entry : tie.Start Inv-loop μ-loop = search in let A = entry .args in
+    (omega arith, alike-next (A .a .now) (A .b .now) (at-loop .loop .k) (at-loop .loop .k + 1) (at-loop .loop .inv .1) (c .if1 .left) refl)
 
 returns-2 : tie.Need-returns-2 Inv-loop μ-loop
 returns-2 c =

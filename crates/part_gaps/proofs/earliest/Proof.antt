@@ -8,9 +8,7 @@ use Rattle.part_gaps.proofs.earliest.Tie as tie
 
 returns : tie.Need-returns
 unfolding earliest
-returns c =
-    let A = c .before .before .before .args in
-    omega (arith, origin-column (A .t .now) (A .x))
+returns c = let entry : tie.Start = search in omega (arith, origin-column (entry .args .t .now) (entry .args .x))
 
 pub earliest-spec : {M : Type 1} → statement M
 earliest-spec = tie.close (tie.spec (λ c. search needs) (λ c. search needs) (λ c. search needs) (λ c κs. search needs) returns)

@@ -8,9 +8,7 @@ use Rattle.part_gaps.proofs.latest.Tie as tie
 
 returns : tie.Need-returns
 unfolding latest
-returns c =
-    let A = c .before .before .before .args in
-    omega (arith, origin-row (A .t .now) (A .x))
+returns c = let entry : tie.Start = search in omega (arith, origin-row (entry .args .t .now) (entry .args .x))
 
 pub latest-spec : {M : Type 1} → statement M
 latest-spec = tie.close (tie.spec (λ c. search needs) (λ c. search needs) (λ c κs. search needs) returns)

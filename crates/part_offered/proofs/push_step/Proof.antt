@@ -21,15 +21,14 @@ loop-holds : tie.Need-loop-holds Inv-loop μ-loop
 loop-holds c = (omega arith, step-none _ _ _ _ _, omega arith)
 
 allocation-at-requires : tie.Need-allocation-at-requires Inv-loop μ-loop
-allocation-at-requires c κs = (c .before .before .before .before .before .before .pre .0, (omega arith, omega arith))
+allocation-at-requires c κs = let entry : tie.Start Inv-loop μ-loop = search in (entry .pre .0, (omega arith, omega arith))
 
 loop-again : tie.Need-loop-again Inv-loop μ-loop
-loop-again c =
-    let L = c .before .before .before .before .before .before .loop in (
-      omega arith,
-      step-more _ _ _ _ _ _ _ (L .inv .1) _ _ (c .before .before .before .allocation-at .ensures) (c .before .before .push-allocation .ensures),
-      omega arith,
-    )
+loop-again c = let at-put-at : tie.After-allocation-at Inv-loop μ-loop = search in let at-loop : tie.At-loop Inv-loop μ-loop = search in (
+  omega arith,
+  step-more _ _ _ _ _ _ _ (at-loop .loop .inv .1) _ _ (at-put-at .allocation-at .ensures) (c .before .before .push-allocation .ensures),
+  omega arith,
+)
 
 returns : tie.Need-returns Inv-loop μ-loop
 returns c = step-done _ _ _ _ _ _ _ (c .before .loop .inv .1) _ (omega arith)

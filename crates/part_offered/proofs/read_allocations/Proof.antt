@@ -37,86 +37,78 @@ abbrev μ-loop : tie.MeasureT-loop
 μ-loop plant t offer puts₀ count many₀ at₀ k₀ allocations many at k = count - k
 
 u32-at-requires : tie.Need-u32-at-requires Inv-loop μ-loop
-u32-at-requires c κs = read-of _ _ (c .before .before .before .pre .2) .long
+u32-at-requires c κs = let entry : tie.Start Inv-loop μ-loop = search in read-of _ _ (entry .pre .2) .long
 
 loop-holds : tie.Need-loop-holds Inv-loop μ-loop
-loop-holds c =
-    let e = c .u32-at .ensures in
-    let f = read-of _ _ (c .before .before .before .before .pre .2) .few in
-    (omega arith, first-start _ _, puts-none _ _ (c .before .before .before .before .args .allocations .now), omega arith, omega arith, e, omega (arith, e, f))
+loop-holds c = let entry : tie.Start Inv-loop μ-loop = search in let e = c .u32-at .ensures in
+    let f = read-of _ _ (entry .pre .2) .few in
+    (omega arith, first-start _ _, puts-none _ _ (entry .args .allocations .now), omega arith, omega arith, e, omega (arith, e, f))
 
 u32-at-requires-2 : tie.Need-u32-at-requires-2 Inv-loop μ-loop
-u32-at-requires-2 c κs = let L = c .before .loop in action-within _ _ _ _ (c .before .before .before .before .before .before .pre .2) (omega (arith, L .inv .5)) (L .inv .1)
+u32-at-requires-2 c κs = let entry : tie.Start Inv-loop μ-loop = search in
+    let L = c .before .loop in action-within _ _ _ _ (entry .pre .2) (omega arith) (L .inv .1)
 
 start-of-requires : tie.Need-start-of-requires Inv-loop μ-loop
-start-of-requires c κs =
-    let pre = c .before .before .before .before .before .before .before .pre in
+start-of-requires c κs = let entry : tie.Start Inv-loop μ-loop = search in
     let L = c .before .before .loop in
-    (pre .0, pre .1, action-known _ _ _ _ (pre .2) (omega (arith, L .inv .5)) (L .inv .1) _ _ (pre .1) (c .u32-at2 .ensures))
+    (entry .pre .0, entry .pre .1, action-known _ _ _ _ (entry .pre .2) (omega arith) (L .inv .1) _ _ (entry .pre .1) (c .u32-at2 .ensures))
 
 allocation-count-requires : tie.Need-allocation-count-requires Inv-loop μ-loop
 allocation-count-requires c κs =
-    let pre = c .before .before .before .before .before .before .before .before .pre in
-    let L = c .before .before .before .loop in
-    (pre .0, pre .1, action-known _ _ _ _ (pre .2) (omega (arith, L .inv .5)) (L .inv .1) _ _ (pre .1) (c .before .u32-at2 .ensures))
+    let at-loop : tie.At-loop Inv-loop μ-loop = search in let entry : tie.Start Inv-loop μ-loop = search in let L = at-loop .loop in
+    (entry .pre .0, entry .pre .1, action-known _ _ _ _ (entry .pre .2) (omega arith) (L .inv .1) _ _ (entry .pre .1) (c .before .u32-at2 .ensures))
 
 push-step-requires : tie.Need-push-step-requires Inv-loop μ-loop
-push-step-requires c κs =
-    let pre = c .before .before .before .before .before .before .before .before .before .before .pre in
-    let L = c .before .before .before .before .before .loop in
-    let below : L .k < stepCount (c .before .before .before .before .before .before .before .before .before .before .args .offer .now) = omega (arith, L .inv .5) in
-    let action = c .before .before .before .u32-at2 .ensures in
+push-step-requires c κs = let at-u32-at2 : tie.After-u32-at2 Inv-loop μ-loop = search in let at-loop : tie.At-loop Inv-loop μ-loop = search in
+    let entry : tie.Start Inv-loop μ-loop = search in
+    let below : at-loop .loop .k < stepCount (entry .args .offer .now) = omega arith in
     let start = c .before .before .start-of .ensures in
     let n = count-at _ _ _ _ (c .before .allocation-count .ensures .0) (start .0) in (
-      (record-is _ _ _ _ (pre .2) below (L .inv .1) _ _ action (start .0), L .inv .1),
+      (record-is _ _ _ _ (entry .pre .2) below (at-loop .loop .inv .1) _ _ (at-u32-at2 .u32-at2 .ensures) (start .0), at-loop .loop .inv .1),
       (
-        omega (arith, n, start .1),
-        step-within _ _ _ _ (pre .2) below (L .inv .1) _ _ action (start .0) _ n,
-        omega (arith, c .before .allocation-count .ensures .1),
+        omega (arith, n),
+        step-within _ _ _ _ (entry .pre .2) below (at-loop .loop .inv .1) _ _ (at-u32-at2 .u32-at2 .ensures) (start .0) _ n,
+        omega arith,
       ),
     )
 
-add-many : tie.Need-add-many Inv-loop μ-loop
-add-many c = omega (arith, c .before .before .before .before .allocation-count .ensures .1)
-
 add-at : tie.Need-add-at Inv-loop μ-loop
-add-at c =
-    let L = c .before .before .before .before .before .before .before .before .loop in
-    let w = action-within _ _ _ _ (c .before .before .before .before .before .before .before .before .before .before .before .before .before .pre .2) (omega (arith, L .inv .5)) (L .inv .1) in
+add-at c = let at-loop : tie.At-loop Inv-loop μ-loop = search in let entry : tie.Start Inv-loop μ-loop = search in
+    let w = action-within _ _ _ _ (entry .pre .2) (omega arith) (at-loop .loop .inv .1) in
     omega (arith, w)
 
 add-at-2 : tie.Need-add-at-2 Inv-loop μ-loop
 add-at-2 c =
-    let L = c .before .before .before .before .before .before .before .before .loop in
-    let start = c .before .before .before .before .before .start-of .ensures in
-    let n = count-at _ _ _ _ (c .before .before .before .before .allocation-count .ensures .0) (start .0) in
-    let w = step-within _ _ _ _ (c .before .before .before .before .before .before .before .before .before .before .before .before .before .pre .2) (omega (arith, L .inv .5)) (L .inv .1) _ _ (c .before .before .before .before .before .before .u32-at2 .ensures) (start .0) _ n in
+    let at-allocation-count : tie.After-allocation-count Inv-loop μ-loop = search in let at-start-of : tie.After-start-of Inv-loop μ-loop = search in
+    let at-u32-at2 : tie.After-u32-at2 Inv-loop μ-loop = search in let at-loop : tie.At-loop Inv-loop μ-loop = search in
+    let entry : tie.Start Inv-loop μ-loop = search in let start = at-start-of .start-of .ensures in
+    let n = count-at _ _ _ _ (at-allocation-count .allocation-count .ensures .0) (start .0) in
+    let w = step-within _ _ _ _ (entry .pre .2) (omega arith) (at-loop .loop .inv .1) _ _ (at-u32-at2 .u32-at2 .ensures) (start .0) _ n in
     omega (arith, w)
 
 loop-again : tie.Need-loop-again Inv-loop μ-loop
 loop-again c =
-    let pre = c .before .before .before .before .before .before .before .before .before .before .before .before .before .pre in
-    let L = c .before .before .before .before .before .before .before .before .loop in
-    let below : L .k < stepCount (c .before .before .before .before .before .before .before .before .before .before .before .before .before .args .offer .now) = omega (arith, L .inv .5) in
-    let action = c .before .before .before .before .before .before .u32-at2 .ensures in
-    let start = c .before .before .before .before .before .start-of .ensures in
-    let n = count-at _ _ _ _ (c .before .before .before .before .allocation-count .ensures .0) (start .0) in
-    let here = record-is _ _ _ _ (pre .2) below (L .inv .1) _ _ action (start .0) in (
+    let at-allocation-count : tie.After-allocation-count Inv-loop μ-loop = search in let at-start-of : tie.After-start-of Inv-loop μ-loop = search in
+    let at-u32-at2 : tie.After-u32-at2 Inv-loop μ-loop = search in let at-loop : tie.At-loop Inv-loop μ-loop = search in
+    let entry : tie.Start Inv-loop μ-loop = search in
+    let below : at-loop .loop .k < stepCount (entry .args .offer .now) = omega arith in
+    let n = count-at _ _ _ _ (at-allocation-count .allocation-count .ensures .0) (at-start-of .start-of .ensures .0) in
+    let here = record-is _ _ _ _ (entry .pre .2) below (at-loop .loop .inv .1) _ _ (at-u32-at2 .u32-at2 .ensures) (at-start-of .start-of .ensures .0) in (
       omega arith,
-      next-at _ _ _ _ (pre .2) below (L .inv .1) _ _ action (start .0) _ n,
-      puts-next _ _ _ _ _ _ _ (L .inv .2) (c .before .before .push-step .ensures) here n,
-      omega (arith, c .before .before .before .before .allocation-count .ensures .1),
+      next-at _ _ _ _ (entry .pre .2) below (at-loop .loop .inv .1) _ _ (at-u32-at2 .u32-at2 .ensures) (at-start-of .start-of .ensures .0) _ n,
+      puts-next _ _ _ _ _ _ _ (at-loop .loop .inv .2) (c .before .before .push-step .ensures) here n,
       omega arith,
-      L .inv .5,
-      L .inv .6,
+      omega arith,
+      at-loop .loop .inv .5,
+      at-loop .loop .inv .6,
     )
 
 returns : tie.Need-returns Inv-loop μ-loop
-returns c = puts-done _ _ _ _ (c .before .loop .inv .2) (omega (arith, c .before .loop .inv .5))
+returns c = puts-done _ _ _ _ (c .before .loop .inv .2) (omega arith)
 
 pub read-allocations-spec : {M : Type 1} → statement M
 read-allocations-spec =
     tie.close
     (tie.spec
-    Inv-loop μ-loop u32-at-requires loop-holds u32-at-requires-2 start-of-requires allocation-count-requires push-step-requires add-many add-at
+    Inv-loop μ-loop u32-at-requires loop-holds u32-at-requires-2 start-of-requires allocation-count-requires push-step-requires (λ c. omega arith) add-at
     (λ c. omega arith) add-at-2 (λ c. omega arith) (λ c. omega arith) loop-again (λ c. omega arith) returns)

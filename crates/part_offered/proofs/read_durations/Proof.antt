@@ -17,48 +17,62 @@ use Rattle.part_offered.proofs.read_durations.Statement.{statement}
 use Rattle.part_offered.proofs.read_durations.Tie as tie
 
 abbrev Inv-loop : tie.InvT-loop
-Inv-loop plant t offer count held₀ at₀ k₀ held at k = (k ≤ count) × (held .count ≡ count) × (at ≡ stepStart plant offer k) × (held .steps ≡ padded mostSteps noStep (stepsFrom plant offer 0 k)) × (count ≡ stepCount offer) × (count ≤ mostSteps)
+Inv-loop plant t offer count held₀ at₀ k₀ held at k =
+    (k ≤ count) × (held .count ≡ count) × (at ≡ stepStart plant offer k) × (held .steps ≡ padded mostSteps noStep (stepsFrom plant offer 0 k))
+    × (count ≡ stepCount offer) × (count ≤ mostSteps)
 
 abbrev μ-loop : tie.MeasureT-loop
 μ-loop plant t offer count held₀ at₀ k₀ held at k = count - k
 
 offset-at-requires : tie.Need-offset-at-requires Inv-loop μ-loop
-offset-at-requires c κs = read-of _ _ (c .before .before .before .pre .2) .long
+offset-at-requires c κs = let entry : tie.Start Inv-loop μ-loop = search in read-of _ _ (entry .pre .2) .long
 
 loop-holds : tie.Need-loop-holds Inv-loop μ-loop
-loop-holds c = let e = c .offset-at .ensures .0 in
-    let f = read-of _ _ (c .before .before .before .before .pre .2) .few in
+loop-holds c = let entry : tie.Start Inv-loop μ-loop = search in
+    let e = c .offset-at .ensures .0 in
+    let f = read-of _ _ (entry .pre .2) .few in
     (omega arith, refl, first-start _ _, ap (λ (z : Step). replicate mostSteps z) (c .before .no-step .ensures) ∙ steps-none _ _, e, omega (arith, e, f))
 
 u32-at-requires : tie.Need-u32-at-requires Inv-loop μ-loop
-u32-at-requires c κs = let e = c .before .loop .inv .4 in action-within _ _ _ _ (c .before .before .before .before .before .before .pre .2) (omega (arith, e)) (c .before .loop .inv .2)
+u32-at-requires c κs = let entry : tie.Start Inv-loop μ-loop = search in
+    let e = c .before .loop .inv .4 in action-within _ _ _ _ (entry .pre .2) (omega (arith, e)) (c .before .loop .inv .2)
 
 start-of-requires : tie.Need-start-of-requires Inv-loop μ-loop
-start-of-requires c κs = let e = c .before .before .loop .inv .4 in (c .before .before .before .before .before .before .before .pre .0, c .before .before .before .before .before .before .before .pre .1, action-known _ _ _ _ (c .before .before .before .before .before .before .before .pre .2) (omega (arith, e)) (c .before .before .loop .inv .2) _ _ (c .before .before .before .before .before .before .before .pre .1) (c .u32-at .ensures))
+start-of-requires c κs = let at-loop : tie.At-loop Inv-loop μ-loop = search in let entry : tie.Start Inv-loop μ-loop = search in
+    let e = at-loop .loop .inv .4 in
+    (entry .pre .0, entry .pre .1, action-known _ _ _ _ (entry .pre .2) (omega (arith, e)) (at-loop .loop .inv .2) _ _ (entry .pre .1) (c .u32-at .ensures))
 
 step-at-requires : tie.Need-step-at-requires Inv-loop μ-loop
 step-at-requires c κs = let w = c .start-of .ensures .1 in omega (arith, w)
 
 add-at : tie.Need-add-at Inv-loop μ-loop
-add-at c = let e = c .before .before .before .before .loop .inv .4 in let w = action-within _ _ _ _ (c .before .before .before .before .before .before .before .before .before .pre .2) (omega (arith, e)) (c .before .before .before .before .loop .inv .2) in omega (arith, w)
+add-at c = let at-loop : tie.At-loop Inv-loop μ-loop = search in let entry : tie.Start Inv-loop μ-loop = search in
+    let w = action-within _ _ _ _ (entry .pre .2) (omega (arith, at-loop .loop .inv .4)) (at-loop .loop .inv .2) in omega (arith, w)
 
 byte-at-requires : tie.Need-byte-at-requires Inv-loop μ-loop
 byte-at-requires c κs = let w = c .before .start-of .ensures .1 in omega (arith, w)
 
 add-at-2 : tie.Need-add-at-2 Inv-loop μ-loop
-add-at-2 c = let e = c .before .before .before .before .before .loop .inv .4 in
-    let w = step-within _ _ _ _ (c .before .before .before .before .before .before .before .before .before .before .pre .2) (omega (arith, e)) (c .before .before .before .before .before .loop .inv .2) _ _ (c .before .before .before .u32-at .ensures) (c .before .before .start-of .ensures .0) _ (c .byte-at .ensures .0) in
+add-at-2 c = let at-u32-at : tie.After-u32-at Inv-loop μ-loop = search in let at-loop : tie.At-loop Inv-loop μ-loop = search in
+    let entry : tie.Start Inv-loop μ-loop = search in
+    let e = at-loop .loop .inv .4 in
+    let w = step-within _ _ _ _ (entry .pre .2) (omega (arith, e)) (at-loop .loop .inv .2) _ _ (at-u32-at .u32-at .ensures)
+    (c .before .before .start-of .ensures .0) _ (c .byte-at .ensures .0) in
     omega (arith, w)
 
 loop-again : tie.Need-loop-again Inv-loop μ-loop
-loop-again c = let e = c .before .before .before .before .before .loop .inv .4 in
-    let r = record-is _ _ _ _ (c .before .before .before .before .before .before .before .before .before .before .pre .2) (omega (arith, e)) (c .before .before .before .before .before .loop .inv .2) _ _ (c .before .before .before .u32-at .ensures) (c .before .before .start-of .ensures .0) in (
+loop-again c = let at-start-of : tie.After-start-of Inv-loop μ-loop = search in let at-u32-at : tie.After-u32-at Inv-loop μ-loop = search in
+    let at-loop : tie.At-loop Inv-loop μ-loop = search in let entry : tie.Start Inv-loop μ-loop = search in
+    let e = at-loop .loop .inv .4 in
+    let r = record-is _ _ _ _ (entry .pre .2) (omega (arith, e)) (at-loop .loop .inv .2) _ _ (at-u32-at .u32-at .ensures)
+    (at-start-of .start-of .ensures .0) in (
       omega arith,
-      c .before .before .before .before .before .loop .inv .1,
-      next-at _ _ _ _ (c .before .before .before .before .before .before .before .before .before .before .pre .2) (omega (arith, e)) (c .before .before .before .before .before .loop .inv .2) _ _ (c .before .before .before .u32-at .ensures) (c .before .before .start-of .ensures .0) _ (c .byte-at .ensures .0),
-      steps-next _ _ _ _ _ _ (c .before .before .before .before .before .loop .inv .3) (omega arith) r (c .before .step-at .ensures .0) (c .before .step-at .ensures .1),
+      at-loop .loop .inv .1,
+      next-at _ _ _ _ (entry .pre .2) (omega (arith, e)) (at-loop .loop .inv .2) _ _ (at-u32-at .u32-at .ensures) (at-start-of .start-of .ensures .0) _
+          (c .byte-at .ensures .0),
+      steps-next _ _ _ _ _ _ (at-loop .loop .inv .3) (omega arith) r (c .before .step-at .ensures .0) (c .before .step-at .ensures .1),
       e,
-      c .before .before .before .before .before .loop .inv .5,
+      at-loop .loop .inv .5,
     )
 
 returns : tie.Need-returns Inv-loop μ-loop

@@ -15,16 +15,14 @@ entails-requires c κs =
     ((p .0 .0, usable-wide _ side _ (p .0 .1) u), p .1 .0 .bounded _ _ (u .late-live) (u .early-live))
 
 returns : tie.Need-returns
-returns c =
-    let p = c .before .before .before .before .pre in
-    let u = p .0 .2 in
-    sym (added-known (c .before .before .before .before .args .t .now) _ _ (p .0 .0) (p .0 .1) (p .1 .0) (u .early-live) (u .late-live) (leb-true _ _ (sym (c .before .entails .ensures) ∙ c .if1 .taken)))
+returns c = let entry : tie.Start = search in let p = entry .pre in let u = p .0 .2 in
+    sym (added-known (entry .args .t .now) _ _ (p .0 .0) (p .0 .1) (p .1 .0) (u .early-live) (u .late-live)
+    (leb-true _ _ (sym (c .before .entails .ensures) ∙ c .if1 .taken)))
 
 add-requires : tie.Need-add-requires
-add-requires c κs =
-    let p = c .before .before .before .before .before .pre in
-    let u = p .0 .2 in
-    (p .0, (p .1 .0, agrees-whole _ _ _ (p .1 .0) (u .early-live) (u .late-live) (p .1 .1)))
+add-requires c κs = let entry : tie.Start = search in
+    let u = entry .pre .0 .2 in
+    (entry .pre .0, (entry .pre .1 .0, agrees-whole _ _ _ (entry .pre .1 .0) (u .early-live) (u .late-live) (entry .pre .1 .1)))
 
 pub add-new-spec : {M : Type 1} → statement M
 add-new-spec = tie.close (tie.spec entails-requires (λ c. search needs) returns add-requires (λ c. search needs) (λ c. search needs))

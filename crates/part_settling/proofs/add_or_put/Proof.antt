@@ -10,16 +10,15 @@ use Rattle.part_settling.proofs.add_or_put.Statement.{statement}
 use Rattle.part_settling.proofs.add_or_put.Tie as tie
 
 returns : tie.Need-returns
-returns c = (all-added _ _ _ (c .before .before .before .add-all .ensures .0) (c .if1 .taken), λ e. absurd (true≢false e))
+returns c = let at-add-all : tie.After-add-all = search in
+    (all-added _ _ _ (at-add-all .add-all .ensures .0) (c .if1 .taken), λ e. absurd (true≢false e))
 
 returns-2 : tie.Need-returns-2
-returns-2 c =
-    let A = c .before .before .before .before .before .before .before .before .before .before .before .args in
-    let added = c .before .before .before .before .before .before .before .add-all in
+returns-2 c = let at-if1 : tie.Else1 = search in let added : tie.After-add-all = search in let entry : tie.Start = search in let A = entry .args in
     let put = c .before .before .copy-cells in
     let cells : ℕ → ℕ = λ k. getD (A .old .now) k 0 in (
-      not-added _ _ _ (added .ensures .0) (c .before .before .before .before .if1 .left) _,
-      λ e. live-put cells (A .t .now) (added .last .0) (put .last .0) (A .n * side) (omega arith) (added .ensures .1) (put .ensures),
+      not-added _ _ _ (added .add-all .ensures .0) (at-if1 .if1 .left) _,
+      λ e. live-put cells (A .t .now) (added .add-all .last .0) (put .last .0) (A .n * side) (omega arith) (added .add-all .ensures .1) (put .ensures),
     )
 
 pub add-or-put-spec : {M : Type 1} → statement M

@@ -15,34 +15,29 @@ use Rattle.part_settling.proofs.grow_or_put.Statement.{statement}
 use Rattle.part_settling.proofs.grow_or_put.Tie as tie
 
 grow-requires : tie.Need-grow-requires
-grow-requires c κs =
-    let p = c .before .before .before .pre .0 in
-    ((p .0, p .1, p .2, p .3), λ i h. p .4 .bounded i 0 h (p .1))
+grow-requires c κs = let entry : tie.Start = search in
+    ((entry .pre .0 .0, entry .pre .0 .1, entry .pre .0 .2, entry .pre .0 .3), λ i h. entry .pre .0 .4 .bounded i 0 h (entry .pre .0 .1))
 
 add-or-put-requires : tie.Need-add-or-put-requires
-add-or-put-requires c κs =
-    let A = c .before .before .before .before .before .before .before .args in
-    let p = c .before .before .before .before .before .before .before .pre .0 in
-    let e = c .before .before .before .grow .ensures in (
+add-or-put-requires c κs = let at-grow : tie.After-grow = search in let entry : tie.Start = search in let p = entry .pre .0 in
+    let e = at-grow .grow .ensures in (
       (
-        ap length e ∙ grown-length (A .t .now) (A .n) (A .m) (A .most) (p .0) (p .2),
+        ap length e ∙ grown-length (entry .args .t .now) (entry .args .n) (entry .args .m) (entry .args .most) (p .0) (p .2),
         p .2,
-        rw e (grown-closed (A .t .now) (A .n) (A .m) (A .most) (p .0) (p .1) (p .2) (p .3) (p .4)),
+        rw e (grown-closed (entry .args .t .now) (entry .args .n) (entry .args .m) (entry .args .most) (p .0) (p .1) (p .2) (p .3) (p .4)),
       ),
-      c .before .before .before .before .before .before .before .pre .1,
+      entry .pre .1,
     )
 
 returns : tie.Need-returns
-returns c =
-    let A = c .before .before .before .before .before .before .before .before .before .before .args in
-    let p = c .before .before .before .before .before .before .before .before .before .before .pre .0 in
-    let grew = c .before .before .before .before .before .before .grow in
+returns c = let grew : tie.After-grow = search in let entry : tie.Start = search in let A = entry .args in let p = entry .pre .0 in
     let tried = c .before .before .add-or-put in
     let cells : ℕ → ℕ = λ k. getD (A .old .now) k 0 in (
-      tried .ensures .0 ∙ ap (λ (l : List ℕ). addedAll (rulesOf (A .rules)) (A .n + A .m) l) (grew .ensures),
+      tried .ensures .0 ∙ ap (λ (l : List ℕ). addedAll (rulesOf (A .rules)) (A .n + A .m) l) (grew .grow .ensures),
       λ e.
-          live-put cells (A .t .now) (grew .last .0) _ ((A .n + A .m) * side) (omega arith)
-          (λ k h. ap (λ (w : List ℕ). getD w k 0) (grew .ensures) ∙ grown-past (A .t .now) (A .n) (A .m) (A .most) (p .0) (p .2) k h) (tried .ensures .1 e),
+          live-put cells (A .t .now) (grew .grow .last .0) _ ((A .n + A .m) * side) (omega arith)
+          (λ k h. ap (λ (w : List ℕ). getD w k 0) (grew .grow .ensures) ∙ grown-past (A .t .now) (A .n) (A .m) (A .most) (p .0) (p .2) k h)
+          (tried .ensures .1 e),
     )
 
 pub grow-or-put-spec : {M : Type 1} → statement M

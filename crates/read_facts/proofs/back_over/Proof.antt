@@ -11,11 +11,13 @@ returns c = simp (← c .before .is-undoing .ensures, c .if1 .taken)
 
 returns-2 : tie.Need-returns-2
 unfolding backOver
-returns-2 c = simp (← c .before .before .before .before .is-undoing .ensures, c .before .before .before .if1 .left, ← c .before .before .regress .ensures, ← c .before .overlap .ensures, c .if2 .taken)
+returns-2 c = let at-if1 : tie.Else1 = search in let at-is-undoing : tie.After-is-undoing = search in
+    simp (← at-is-undoing .is-undoing .ensures, at-if1 .if1 .left, ← c .before .before .regress .ensures, ← c .before .overlap .ensures, c .if2 .taken)
 
 returns-3 : tie.Need-returns-3
 unfolding backOver
-returns-3 c = simp (← c .before .before .before .before .is-undoing .ensures, c .before .before .before .if1 .left, ← c .before .before .regress .ensures, ← c .before .overlap .ensures, c .if2 .left)
+returns-3 c = let at-if1 : tie.Else1 = search in let at-is-undoing : tie.After-is-undoing = search in
+    simp (← at-is-undoing .is-undoing .ensures, at-if1 .if1 .left, ← c .before .before .regress .ensures, ← c .before .overlap .ensures, c .if2 .left)
 
 pub back-over-spec : {M : Type 1} → statement M
 back-over-spec = tie.close (tie.spec (λ c κs. search needs) returns (λ c κs. search needs) (λ c κs. search needs) returns-2 returns-3)

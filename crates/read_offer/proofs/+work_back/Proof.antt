@@ -47,13 +47,22 @@ work-back-enum-told : (t : ℕ) → work-back-lts.Need-enum-told (claims t) (wor
 work-back-enum-told t c = search needs
 
 work-back-returns-2 : (t : ℕ) → work-back-lts.Need-returns-2 (claims t) (work-back-at t) work-back.Post
-work-back-returns-2 t c = back-clash _ _ _ (c .before .before .before .before .if1 .left) _ (c .before .before .before .action-at .ensures) _ (c .before .before .back-over .ensures) _ (c .enum-told .given .1)
+work-back-returns-2 t c =
+    let over = c .before .before in
+    let tested = over .before .before in
+    back-clash _ _ _ (tested .if1 .left) _ (over .before .action-at .ensures) _ (over .back-over .ensures) _ (c .enum-told .given .1)
 
 work-back-work-back-requires : (t : ℕ) → work-back-lts.Need-work-back-requires (claims t) (work-back-at t) work-back.Post
-work-back-work-back-requires t c κs = let less = c .before .before .before .before .before .before .pre .0 in let few = c .before .before .before .before .before .before .pre .1 in (omega (arith, less), omega (arith, few))
+work-back-work-back-requires t c κs =
+    let told = c .before in let over = told .before .before in
+    let tested = over .before .before in let entry = tested .before in
+    (omega (arith, entry .pre .0), omega (arith, entry .pre .1))
 
 work-back-returns-3 : (t : ℕ) → work-back-lts.Need-returns-3 (claims t) (work-back-at t) work-back.Post
-work-back-returns-3 t c = c .work-back .ensures ∙ back-on _ _ _ (c .before .before .before .before .before .before .if1 .left) _ (c .before .before .before .before .before .action-at .ensures) _ (c .before .before .before .before .back-over .ensures) _ (c .before .before .before2 .given .1)
+work-back-returns-3 t c =
+    let told = c .before .before in let over = told .before .before in let tested = over .before .before in
+    c .work-back .ensures
+    ∙ back-on _ _ _ (tested .if1 .left) _ (over .before .action-at .ensures) _ (over .back-over .ensures) _ (told .before2 .given .1)
 
 pub +work-back-spec : {M : Type 1} → statement M
 +work-back-spec = close μ-work-back λ t. work-back-lts.spec (claims t)

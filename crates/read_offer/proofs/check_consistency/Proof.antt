@@ -9,19 +9,15 @@ returns : tie.Need-returns
 returns c = known-twice _ _ (c .before .before .read-known .ensures) (sym (c .before .overlap .ensures) ∙ c .if1 .taken)
 
 returns-2 : tie.Need-returns-2
-returns-2 c =
-    let goal = c .before .before in
-    let first = goal .before in
-    let known = first .before .before in
-    goal-twice _ _ (known .read-known .ensures) _ (goal .read-goal .ensures) (sym (first .before .overlap .ensures) ∙ first .if1 .left)
+returns-2 c = let at-overlap : tie.After-overlap = search in let goal : tie.After-read-goal = search in let first : tie.Else1 = search in
+    let known : tie.After-read-known = search in
+    goal-twice _ _ (known .read-known .ensures) _ (goal .read-goal .ensures) (sym (at-overlap .overlap .ensures) ∙ first .if1 .left)
     (sym (c .before .overlap2 .ensures) ∙ c .if2 .taken)
 
 returns-3 : tie.Need-returns-3
-returns-3 c =
-    let goal = c .before .before in
-    let first = goal .before in
-    let known = first .before .before in
-    consistent _ _ (known .read-known .ensures) _ (goal .read-goal .ensures) (sym (first .before .overlap .ensures) ∙ first .if1 .left)
+returns-3 c = let at-overlap : tie.After-overlap = search in let goal : tie.After-read-goal = search in let first : tie.Else1 = search in
+    let known : tie.After-read-known = search in
+    consistent _ _ (known .read-known .ensures) _ (goal .read-goal .ensures) (sym (at-overlap .overlap .ensures) ∙ first .if1 .left)
     (sym (c .before .overlap2 .ensures) ∙ c .if2 .left)
 
 pub check-consistency-spec : {M : Type 1} → statement M

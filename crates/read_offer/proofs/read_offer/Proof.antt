@@ -16,7 +16,8 @@ returns-2 c = simp (le-ltb _ _ (c .before .before .if1 .left), ← c .before .u3
 
 returns-3 : tie.Need-returns-3
 unfolding offerRuling
-returns-3 c = simp (le-ltb _ _ (c .before .before .before .if1 .left), ← c .before .before .u32-at .ensures, le-ltb _ _ (c .before .if2 .left), lt-ltb _ _ (c .if3 .taken))
+returns-3 c = let at-if1 : tie.Else1 = search in
+    simp (le-ltb _ _ (at-if1 .if1 .left), ← c .before .before .u32-at .ensures, le-ltb _ _ (c .before .if2 .left), lt-ltb _ _ (c .if3 .taken))
 
 pub read-offer-spec : {M : Type 1} → statement M
 read-offer-spec = tie.close (tie.spec returns (λ c κs. search needs) returns-2 returns-3 (λ c κs. search needs) (λ c. search needs))

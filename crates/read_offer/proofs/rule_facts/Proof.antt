@@ -2,8 +2,10 @@
 use Rattle.read_plant.proofs.Good.{good}
 use Rattle.read_offer.proofs.Chain.{plant-refused, offer-refused, facts-refused, on-to-chain}
 use Rattle.read_offer.proofs.Steps.{read-of}
-use Prim.Native.Nat.{_-_}
-use mathlib.Core.Path.{sym, _∙_}
+use mathlib.Core.Path.{_≡_, sym, _∙_}
+use Rattle.base_rulings.specs.declared.Ruling.the-variants.{Accepted}
+use Rattle.read_plant.specs.Plant.{plantRuling}
+use Rattle.read_offer.specs.Offer.{offerRuling}
 use borrow.Author.Needs.{needs}
 use Rattle.read_offer.proofs.rule_facts.Statement.{statement}
 use Rattle.read_offer.proofs.rule_facts.Tie as tie
@@ -11,54 +13,38 @@ use Rattle.read_offer.proofs.rule_facts.Tie as tie
 returns : tie.Need-returns
 returns c = plant-refused _ _ _ _ (c .before .before .check-plant .ensures) (c .enum-told2 .given .1)
 
+-- past each reading: what it found
+plant-good : (c : tie.After-enum-told) → (let entry : tie.Start = search in plantRuling (entry .args .plant .now) ≡ Accepted)
+plant-good c = cc
+
+format-good : (c : tie.After-enum-told3) → (let entry : tie.Start = search in offerRuling (entry .args .plant .now) (entry .args .offer .now) ≡ Accepted)
+format-good c = cc
+
 read-trailer-requires : tie.Need-read-trailer-requires
-read-trailer-requires c κs = good _ (sym (c .before .before .check-plant .ensures) ∙ c .enum-told .given .1) .long
+read-trailer-requires c κs = good _ (plant-good c) .long
 
 read-offer-requires : tie.Need-read-offer-requires
-read-offer-requires c κs = (sym (c .before .before .before .check-plant .ensures) ∙ c .before .enum-told .given .1, c .read-trailer .ensures .0)
+read-offer-requires c κs = (plant-good (search), c .read-trailer .ensures .0)
 
 returns-2 : tie.Need-returns-2
-returns-2 c =
-    let offered = c .before .before in
-    let good = offered .before .before in
-    offer-refused _ _ _ _ (sym (good .before .before .check-plant .ensures) ∙ good .enum-told .given .1) (offered .read-offer .ensures)
-    (c .enum-told4 .given .1)
+returns-2 c = let offered : tie.After-read-offer = search in
+    offer-refused _ _ _ _ (plant-good (search)) (offered .read-offer .ensures) (c .enum-told4 .given .1)
 
 check-consistency-requires : tie.Need-check-consistency-requires
-check-consistency-requires c κs =
-    let offered = c .before .before in
-    read-of _ _ (sym (offered .read-offer .ensures) ∙ c .enum-told3 .given .1) .long
+check-consistency-requires c κs = read-of _ _ (format-good c) .long
 
 returns-3 : tie.Need-returns-3
-returns-3 c =
-    let tested = c .before .before in
-    let told = tested .before in
-    let offered = told .before .before in
-    let good = offered .before .before in
-    facts-refused _ _ (sym (good .before .before .check-plant .ensures) ∙ good .enum-told .given .1)
-    (sym (offered .read-offer .ensures) ∙ told .enum-told3 .given .1) _ _ (tested .check-consistency .ensures) (c .enum-told6 .given .1)
+returns-3 c = let tested : tie.After-check-consistency = search in
+    facts-refused _ _ (plant-good (search)) (format-good (search)) _ _ (tested .check-consistency .ensures) (c .enum-told6 .given .1)
 
 check-chain-requires : tie.Need-check-chain-requires
-check-chain-requires c κs =
-    let told = c .before .before .before in
-    let offered = told .before .before in
-    let trailer = offered .before in
-    let good = trailer .before in (
-      sym (good .before .before .check-plant .ensures) ∙ good .enum-told .given .1,
-      trailer .read-trailer .ensures .0,
-      sym (offered .read-offer .ensures) ∙ told .enum-told3 .given .1,
-    )
+check-chain-requires c κs = let trailer : tie.After-read-trailer = search in
+    (plant-good (search), trailer .read-trailer .ensures .0, format-good (search))
 
 returns-4 : tie.Need-returns-4
-returns-4 c =
-    let past = c .before in
-    let tested = past .before .before in
-    let told = tested .before in
-    let offered = told .before .before in
-    let good = offered .before .before in
-    c .check-chain .ensures
-    ∙ on-to-chain _ _ (sym (good .before .before .check-plant .ensures) ∙ good .enum-told .given .1)
-    (sym (offered .read-offer .ensures) ∙ told .enum-told3 .given .1) (sym (tested .check-consistency .ensures) ∙ past .enum-told5 .given .1)
+returns-4 c = let tested : tie.After-check-consistency = search in
+    let agreed = sym (tested .check-consistency .ensures) ∙ c .before .enum-told5 .given .1 in
+    c .check-chain .ensures ∙ on-to-chain _ _ (plant-good (search)) (format-good (search)) agreed
 
 pub rule-facts-spec : {M : Type 1} → statement M
 rule-facts-spec =

@@ -16,13 +16,19 @@ returns-2 : tie.Need-returns-2
 returns-2 c = unmarked _ _ (c .before .before .if1 .left) (c .before .is-marked .ensures) (not-true _ (c .if2 .taken))
 
 returns-3 : tie.Need-returns-3
-returns-3 c = bad-layout _ _ _ (c .before .before .before .before .before .if1 .left) (c .before .before .before .before .is-marked .ensures) (c .before .before .read-trailer .ensures .0) (not-false _ (c .before .before .before .if2 .left)) (sym (c .before .is-bad-layout .ensures) ∙ c .if3 .taken)
+returns-3 c = let at-if2 : tie.Else2 = search in let at-is-marked : tie.After-is-marked = search in let at-if1 : tie.Else1 = search in
+    bad-layout _ _ _ (at-if1 .if1 .left) (at-is-marked .is-marked .ensures) (c .before .before .read-trailer .ensures .0) (not-false _ (at-if2 .if2 .left))
+    (sym (c .before .is-bad-layout .ensures) ∙ c .if3 .taken)
 
 read-records-requires : tie.Need-read-records-requires
 read-records-requires c κs = (c .before .before .read-trailer .ensures .0, layout-fits _ _ (sym (c .before .is-bad-layout .ensures) ∙ c .if3 .left))
 
 returns-4 : tie.Need-returns-4
-returns-4 c = c .read-records .ensures ∙ on-to-records _ _ _ (c .before .before .before .before .before .before .if1 .left) (c .before .before .before .before .before .is-marked .ensures) (c .before .before .before .read-trailer .ensures .0) (not-false _ (c .before .before .before .before .if2 .left)) (sym (c .before .before .is-bad-layout .ensures) ∙ c .before .if3 .left)
+returns-4 c =
+    let at-read-trailer : tie.After-read-trailer = search in let at-if2 : tie.Else2 = search in let at-is-marked : tie.After-is-marked = search in
+    let at-if1 : tie.Else1 = search in
+    c .read-records .ensures ∙ on-to-records _ _ _ (at-if1 .if1 .left) (at-is-marked .is-marked .ensures) (at-read-trailer .read-trailer .ensures .0)
+    (not-false _ (at-if2 .if2 .left)) (sym (c .before .before .is-bad-layout .ensures) ∙ c .before .if3 .left)
 
 pub check-plant-spec : {M : Type 1} → statement M
 check-plant-spec =

@@ -16,7 +16,7 @@ returns-2 c = simp (le-ltb _ _ (c .before .before .if1 .left), lt-ltb _ _ (c .if
 
 returns-3 : tie.Need-returns-3
 unfolding badLayout
-returns-3 c = simp (le-ltb _ _ (c .before .before .before .before .if1 .left), le-ltb _ _ (c .before .before .if2 .left))
+returns-3 c = let at-if1 : tie.Else1 = search in simp (le-ltb _ _ (at-if1 .if1 .left), le-ltb _ _ (c .before .before .if2 .left))
 
 pub is-bad-layout-spec : {M : Type 1} → statement M
 is-bad-layout-spec = tie.close (tie.spec returns returns-2 (λ c. search needs) (λ c. search needs) (λ c. search needs) (λ c. search needs) returns-3)

@@ -21,7 +21,8 @@ returns : tie.Need-returns Inv-loop μ-loop
 returns c = sym (some-bad-here _ _ _ _ (c .before .before .loop-test .taken) (sym (c .before .is-bad-allocation .ensures) ∙ c .if1 .taken))
 
 loop-again : tie.Need-loop-again Inv-loop μ-loop
-loop-again c = (omega arith, some-bad-next _ _ _ (c .before .before .before .loop .inv .1) (sym (c .before .is-bad-allocation .ensures) ∙ c .if1 .left))
+loop-again c = let at-loop : tie.At-loop Inv-loop μ-loop = search in
+    (omega arith, some-bad-next _ _ _ (at-loop .loop .inv .1) (sym (c .before .is-bad-allocation .ensures) ∙ c .if1 .left))
 
 returns-2 : tie.Need-returns-2 Inv-loop μ-loop
 returns-2 c = some-bad-all _ _ _ _ (c .before .loop .inv .1) (omega arith)

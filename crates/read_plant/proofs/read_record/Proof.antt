@@ -23,16 +23,21 @@ is-bad-action-requires c κs = let p = placed _ _ _ _ (sym (c .before .before .i
 
 returns-2 : tie.Need-returns-2
 unfolding recordAt
-returns-2 c = simp (← c .before .before .before .before .is-bad-record .ensures, c .before .before .before .if1 .left, ← c .before .is-bad-action .ensures, c .if2 .taken)
+returns-2 c = let at-if1 : tie.Else1 = search in let at-is-bad-record : tie.After-is-bad-record = search in
+    simp (← at-is-bad-record .is-bad-record .ensures, at-if1 .if1 .left, ← c .before .is-bad-action .ensures, c .if2 .taken)
 
 add-t8 : tie.Need-add-t8
-add-t8 c = let p = placed _ _ _ _ (sym (c .before .before .before .before .is-bad-record .ensures) ∙ c .before .before .before .if1 .left) in omega (arith, p)
+add-t8 c = let at-if1 : tie.Else1 = search in let at-is-bad-record : tie.After-is-bad-record = search in
+    let p = placed _ _ _ _ (sym (at-is-bad-record .is-bad-record .ensures) ∙ at-if1 .if1 .left) in omega (arith, p)
 
 add-t12 : tie.Need-add-t12
-add-t12 c = let p = placed _ _ _ _ (sym (c .before .before .before .before .is-bad-record .ensures) ∙ c .before .before .before .if1 .left) in omega (arith, p)
+add-t12 c = let at-if1 : tie.Else1 = search in let at-is-bad-record : tie.After-is-bad-record = search in
+    let p = placed _ _ _ _ (sym (at-is-bad-record .is-bad-record .ensures) ∙ at-if1 .if1 .left) in omega (arith, p)
 
 returns-3 : tie.Need-returns-3
-returns-3 c = record-ends _ _ _ _ _ (sym (c .before .before .before .before .is-bad-record .ensures) ∙ c .before .before .before .if1 .left) (sym (c .before .is-bad-action .ensures) ∙ c .if2 .left) (c .before .before .byte-at .ensures .0)
+returns-3 c = let at-if1 : tie.Else1 = search in let at-is-bad-record : tie.After-is-bad-record = search in
+    record-ends _ _ _ _ _ (sym (at-is-bad-record .is-bad-record .ensures) ∙ at-if1 .if1 .left) (sym (c .before .is-bad-action .ensures) ∙ c .if2 .left)
+    (c .before .before .byte-at .ensures .0)
 
 pub read-record-spec : {M : Type 1} → statement M
 read-record-spec =

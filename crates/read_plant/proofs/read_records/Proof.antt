@@ -21,19 +21,23 @@ loop-holds : tie.Need-loop-holds Inv-loop μ-loop
 loop-holds c = (omega arith, start-none _, first-none _)
 
 read-record-requires : tie.Need-read-record-requires Inv-loop μ-loop
-read-record-requires c κs = (c .before .before .before .before .pre .1, c .if1 .taken)
+read-record-requires c κs = let entry : tie.Start Inv-loop μ-loop = search in (entry .pre .1, c .if1 .taken)
 
 returns : tie.Need-returns Inv-loop μ-loop
-returns c = let here = ruling-is _ _ _ _ _ (c .before .before .before .before .before .before .before .before .pre .0) (c .before .before .before .before .before .before .loop .inv .1) (c .before .before .before .read-record .ensures) in
+returns c = let at-read-record : tie.After-read-record Inv-loop μ-loop = search in let at-if1 : tie.Then1 Inv-loop μ-loop = search in
+    let at-loop : tie.At-loop Inv-loop μ-loop = search in let entry : tie.Start Inv-loop μ-loop = search in
+    let here = ruling-is _ _ _ _ _ (entry .pre .0) (at-loop .loop .inv .1) (at-read-record .read-record .ensures) in
     c .refusal .ensures ∙ ap refusalOf (c .before .enum-told .given .1)
-    ∙ sym (reading-stops _ _ _ (c .before .before .before .before .before .before .loop .inv .2) here _ _ (c .before .enum-told .given .1) (c .before .before .before .before .if1 .taken))
+    ∙ sym (reading-stops _ _ _ (at-loop .loop .inv .2) here _ _ (c .before .enum-told .given .1) (at-if1 .if1 .taken))
 
 loop-again : tie.Need-loop-again Inv-loop μ-loop
-loop-again c = let here = ruling-is _ _ _ _ _ (c .before .before .before .before .before .before .before .before .pre .0) (c .before .before .before .before .before .before .loop .inv .1) (c .before .before .before .read-record .ensures) in (
-  omega arith,
-  next-start _ _ _ _ _ (c .before .before .before .before .before .before .before .before .pre .0) (c .before .before .before .before .before .before .loop .inv .1) (c .before .before .before .read-record .ensures) _ (c .before .answer .given .1),
-  reading-goes-on _ _ _ (c .before .before .before .before .before .before .loop .inv .2) here _ (c .before .answer .given .1),
-)
+loop-again c = let at-read-record : tie.After-read-record Inv-loop μ-loop = search in let at-loop : tie.At-loop Inv-loop μ-loop = search in
+    let entry : tie.Start Inv-loop μ-loop = search in
+    let here = ruling-is _ _ _ _ _ (entry .pre .0) (at-loop .loop .inv .1) (at-read-record .read-record .ensures) in (
+      omega arith,
+      next-start _ _ _ _ _ (entry .pre .0) (at-loop .loop .inv .1) (at-read-record .read-record .ensures) _ (c .before .answer .given .1),
+      reading-goes-on _ _ _ (at-loop .loop .inv .2) here _ (c .before .answer .given .1),
+    )
 
 returns-2 : tie.Need-returns-2 Inv-loop μ-loop
 returns-2 c = first-ends _ _ _ (c .before .before .loop .inv .2) (omega arith)

@@ -11,22 +11,16 @@ returns : tie.Need-returns
 returns c = let entry = c .before .before .args in other-number (entry .s) (entry .w .now) (c .if1 .taken)
 
 returns-2 : tie.Need-returns-2
-returns-2 c = let cleared = c .before .before .before .before in
-    let sized = cleared .before .before in
-    let entry = sized .before .before .args in
-    refused-words (entry .s) (entry .w .now) _ (sized .if1 .left) (cleared .clear .ensures) (sym (c .before .is-bad .ensures) ∙ c .if2 .taken)
+returns-2 c = let entry : tie.Start = search in let cleared : tie.After-clear = search in let sized : tie.Else1 = search in
+    refused-words (entry .args .s) (entry .args .w .now) _ (sized .if1 .left) (cleared .clear .ensures) (sym (c .before .is-bad .ensures) ∙ c .if2 .taken)
 
 slice-write-w-3 : tie.Need-slice-write-w-3
-slice-write-w-3 c = let cleared = c .before .before .before .before in
-    let sized = cleared .before .before in
-    let entry = sized .before .before .args in
-    omega (arith, stored-length (entry .w .now) _ (entry .s) (cleared .clear .ensures), sized .if1 .left)
+slice-write-w-3 c = let entry : tie.Start = search in let cleared : tie.After-clear = search in
+    omega (arith, stored-length (entry .args .w .now) _ (entry .args .s) (cleared .clear .ensures))
 
 returns-3 : tie.Need-returns-3
-returns-3 c = let cleared = c .before .before .before .before in
-    let sized = cleared .before .before in
-    let entry = sized .before .before .args in
-    accepted-words (entry .s) (entry .w .now) _ (sized .if1 .left) (cleared .clear .ensures) (sym (c .before .is-bad .ensures) ∙ c .if2 .left)
+returns-3 c = let entry : tie.Start = search in let cleared : tie.After-clear = search in let sized : tie.Else1 = search in
+    accepted-words (entry .args .s) (entry .args .w .now) _ (sized .if1 .left) (cleared .clear .ensures) (sym (c .before .is-bad .ensures) ∙ c .if2 .left)
 
 pub fresh-spec : {M : Type 1} → statement M
 fresh-spec =

@@ -5,7 +5,8 @@ use Rattle.log_calls.proofs.answers.put_part.Statement.{statement}
 use Rattle.log_calls.proofs.answers.put_part.Tie as tie
 
 returns : tie.Need-returns
-returns c = written-more _ _ _ _ _ _ _ _ (written-more _ _ _ _ _ _ _ _ (c .before .before .before .before .before .before .before .before .before .before .before .put .ensures) (c .before .before .before .before .before .before .before .put-hex .ensures)) (c .before .before .put2 .ensures)
+returns c = let at-put-hex : tie.After-put-hex = search in let at-put : tie.After-put = search in
+    written-more _ _ _ _ _ _ _ _ (written-more _ _ _ _ _ _ _ _ (at-put .put .ensures) (at-put-hex .put-hex .ensures)) (c .before .before .put2 .ensures)
 
 pub put-part-spec : {M : Type 1} → statement M
 put-part-spec =

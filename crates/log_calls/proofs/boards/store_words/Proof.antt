@@ -20,13 +20,13 @@ loop-holds : tie.Need-loop-holds Inv-loop μ-loop
 loop-holds c = (omega arith, rewritten-none _ _ _ _ (omega arith), refl)
 
 loop-again : tie.Need-loop-again Inv-loop μ-loop
-loop-again c = let A = c .before .before .before .before .before .args in
+loop-again c = let entry : tie.Start Inv-loop μ-loop = search in let A = entry .args in
     let L = c .before .before .loop in
     let more = store (wordAt (A .bytes .now)) (A .w .now) (L .w) 0 (L .k) (L .inv .1) _ _ (omega arith) (omega arith) refl (c .u32-at .ensures) in
     (omega arith, more, simp length-set (omega arith))
 
 returns : tie.Need-returns Inv-loop μ-loop
-returns c = let entry = c .before .before .before .before in
+returns c = let entry : tie.Start Inv-loop μ-loop = search in
     let L = c .before .loop in
     let f = wordAt (entry .args .bytes .now) in
     done f (entry .args .w .now) (L .w) 0 (L .k) (L .inv .1) boardSize (omega arith) ∙ rewritten-whole f (entry .args .w .now) boardSize (entry .pre .0)

@@ -1,4 +1,5 @@
--- `session::input::take_line` meets its contract. The invariant: no buffer changes its length, and `at` is within the line. The measure is the room left: a piece without a line end is not empty.
+-- `session::input::take_line` meets its contract. The invariant: no buffer changes its length, and `at` is within the line. The measure is the room left: a
+-- piece without a line end is not empty.
 use Prim.Native.Nat.{_≤_, _-_}
 use mathlib.Core.Path.{_≡_, refl}
 use native.Mathlib.Omega.{arith}

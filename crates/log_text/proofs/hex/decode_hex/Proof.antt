@@ -18,15 +18,21 @@ returns-2 c = (simp (← c .before .before .is-dash .ensures, c .before .if1 .le
 
 returns-3 : tie.Need-returns-3
 unfolding hexDecoded
-returns-3 c = (simp (← c .before .before .before .is-dash .ensures, c .before .before .if1 .left, ne-eqb _ _ (c .before .if2 .left), eq-eqb _ _ (c .if3 .taken)), tt)
+returns-3 c = let at-is-dash : tie.After-is-dash = search in
+    (simp (← at-is-dash .is-dash .ensures, c .before .before .if1 .left, ne-eqb _ _ (c .before .if2 .left), eq-eqb _ _ (c .if3 .taken)), tt)
 
 returns-4 : tie.Need-returns-4
 unfolding hexDecoded
-returns-4 c = (simp (← c .before .before .before .before .is-dash .ensures, c .before .before .before .if1 .left, ne-eqb _ _ (c .before .before .if2 .left), ne-eqb _ _ (c .before .if3 .left), lt-ltb _ _ (c .if4 .taken)), tt)
+returns-4 c = let one : tie.Else1 = search in
+    let dash = one .before .is-dash .ensures in let two = ne-eqb _ _ (c .before .before .if2 .left) in
+    (simp (← dash, one .if1 .left, two, ne-eqb _ _ (c .before .if3 .left), lt-ltb _ _ (c .if4 .taken)), tt)
 
 returns-5 : tie.Need-returns-5
 unfolding hexDecoded
-returns-5 c = (simp (← c .before .before .before .before .before .before .before .before .is-dash .ensures, c .before .before .before .before .before .before .before .if1 .left, ne-eqb _ _ (c .before .before .before .before .before .before .if2 .left), ne-eqb _ _ (c .before .before .before .before .before .if3 .left), le-ltb _ _ (c .before .before .before .before .if4 .left)) (c .before .before .decode-pairs .ensures .0), c .before .before .decode-pairs .ensures .1)
+returns-5 c = let decoded : tie.After-decode-pairs = search in let four : tie.Else4 = search in let three : tie.Else3 = search in
+    let two : tie.Else2 = search in let one : tie.Else1 = search in
+    let dash = one .before .is-dash .ensures in let pairs = decoded .decode-pairs .ensures in
+    (simp (← dash, one .if1 .left, ne-eqb _ _ (two .if2 .left), ne-eqb _ _ (three .if3 .left), le-ltb _ _ (four .if4 .left)) (pairs .0), pairs .1)
 
 pub decode-hex-spec : {M : Type 1} → statement M
 decode-hex-spec =

@@ -1,4 +1,5 @@
--- `text::hex::decode_pairs` meets its contract. The invariant: the pairs passed are hex digits, and the buffer begins with their bytes. The laws of a turn are in `Pairs`. Assumes nothing.
+-- `text::hex::decode_pairs` meets its contract. The invariant: the pairs passed are hex digits, and the buffer begins with their bytes. The laws of a turn
+-- are in `Pairs`. Assumes nothing.
 use Rattle.log_text.proofs.Pairs.{all-pairs, bad-high, bad-low, byte-more, pair-more}
 use mathlib.Core.Bool.{true}
 use lib.ListN.{take, length, length-set}
@@ -22,25 +23,26 @@ loop-holds : tie.Need-loop-holds Inv-loop μ-loop
 loop-holds c = (omega arith, refl, sym (allBelow-none _), sym (build-none _))
 
 returns : tie.Need-returns Inv-loop μ-loop
-returns c = (bad-high _ _ (c .before .before .before .before .loop .i) (c .before .before .before .loop-test .taken) (omega arith), tt)
+returns c = let at-loop-test : tie.In-loop Inv-loop μ-loop = search in let at-loop : tie.At-loop Inv-loop μ-loop = search in
+    (bad-high _ _ (at-loop .loop .i) (at-loop-test .loop-test .taken) (omega arith), tt)
 
 returns-2 : tie.Need-returns-2 Inv-loop μ-loop
-returns-2 c = (bad-low _ _ (c .before .before .before .before .before .before .before .loop .i) (c .before .before .before .before .before .before .loop-test .taken) (omega arith), tt)
+returns-2 c = let at-loop-test : tie.In-loop Inv-loop μ-loop = search in let at-loop : tie.At-loop Inv-loop μ-loop = search in
+    (bad-low _ _ (at-loop .loop .i) (at-loop-test .loop-test .taken) (omega arith), tt)
 
 loop-again : tie.Need-loop-again Inv-loop μ-loop
-loop-again c = let L = c .before .before .before .before .before .before .before .loop in
-    let s = c .before .before .before .before .before .before .before .before .before .before .args .s .now in (
-      omega arith,
-      simp length-set (omega arith),
-      pair-more s (L .i) (L .inv .2) (omega arith) (omega arith),
-      byte-more s (L .out) (L .i) _ (omega arith) (L .inv .3) (omega arith),
-    )
+loop-again c = let at-loop : tie.At-loop Inv-loop μ-loop = search in let entry : tie.Start Inv-loop μ-loop = search in (
+  omega arith,
+  simp length-set (omega arith),
+  pair-more (entry .args .s .now) (at-loop .loop .i) (at-loop .loop .inv .2) (omega arith) (omega arith),
+  byte-more (entry .args .s .now) (at-loop .loop .out) (at-loop .loop .i) _ (omega arith) (at-loop .loop .inv .3) (omega arith),
+)
 
 returns-3 : tie.Need-returns-3 Inv-loop μ-loop
-returns-3 c = let L = c .before .loop in
-    let s = c .before .before .before .before .args .s .now in
-    let e : L .i ≡ c .before .before .before .before .args .n = omega arith in
-    (all-pairs s (c .before .before .before .before .args .n) (rw e at (L .inv .2)), (omega arith, rw e at (L .inv .3)))
+returns-3 c = let entry : tie.Start Inv-loop μ-loop = search in
+    let L = c .before .loop in
+    let e : L .i ≡ entry .args .n = omega arith in
+    (all-pairs (entry .args .s .now) (entry .args .n) (rw e at (L .inv .2)), (omega arith, rw e at (L .inv .3)))
 
 pub decode-pairs-spec : {M : Type 1} → statement M
 decode-pairs-spec =

@@ -19,11 +19,13 @@ returns-3 c = simp (le-ltb _ _ (c .before .before .if1 .left), lt-leb _ _ (c .be
 
 returns-4 : tie.Need-returns-4
 unfolding digitValue
-returns-4 c = simp (le-ltb _ _ (c .before .before .before .if1 .left), lt-leb _ _ (c .before .before .if2 .left), le-ltb _ _ (c .before .if3 .left), le-leb _ _ (c .if4 .taken))
+returns-4 c = let at-if1 : tie.Else1 = search in
+    simp (le-ltb _ _ (at-if1 .if1 .left), lt-leb _ _ (c .before .before .if2 .left), le-ltb _ _ (c .before .if3 .left), le-leb _ _ (c .if4 .taken))
 
 returns-5 : tie.Need-returns-5
 unfolding digitValue
-returns-5 c = simp (le-ltb _ _ (c .before .before .before .if1 .left), lt-leb _ _ (c .before .before .if2 .left), le-ltb _ _ (c .before .if3 .left), lt-leb _ _ (c .if4 .left))
+returns-5 c = let at-if1 : tie.Else1 = search in
+    simp (le-ltb _ _ (at-if1 .if1 .left), lt-leb _ _ (c .before .before .if2 .left), le-ltb _ _ (c .before .if3 .left), lt-leb _ _ (c .if4 .left))
 
 pub digit-value-spec : {M : Type 1} → statement M
 digit-value-spec = tie.close (tie.spec returns returns-2 returns-3 (λ c. search needs) returns-4 returns-5)

@@ -7,11 +7,11 @@ use Rattle.log_text.proofs.hex.put_hex.Tie as tie
 
 returns : tie.Need-returns
 unfolding encoded
-returns c = simp (eq-eqb _ _ (c .before .before .before .before .before .if1 .taken)) (c .before .before .put .ensures)
+returns c = let at-if1 : tie.Then1 = search in simp (eq-eqb _ _ (at-if1 .if1 .taken)) (c .before .before .put .ensures)
 
 returns-2 : tie.Need-returns-2
 unfolding encoded
-returns-2 c = simp (ne-eqb _ _ (c .before .before .before .before .if1 .left)) (c .before .before .put-pairs .ensures)
+returns-2 c = let at-if1 : tie.Else1 = search in simp (ne-eqb _ _ (at-if1 .if1 .left)) (c .before .before .put-pairs .ensures)
 
 pub put-hex-spec : {M : Type 1} → statement M
 put-hex-spec =

@@ -4,7 +4,8 @@ use Rattle.log_text.proofs.hex.put_pair.Statement.{statement}
 use Rattle.log_text.proofs.hex.put_pair.Tie as tie
 
 returns : tie.Need-returns
-returns c = rw (c .before .before .before .before .before .before .digit-of .ensures, c .before .before .before .before .before .digit-of2 .ensures) at (c .before .before .put .ensures)
+returns c = let at-digit-of2 : tie.After-digit-of2 = search in let at-digit-of : tie.After-digit-of = search in
+    rw (at-digit-of .digit-of .ensures, at-digit-of2 .digit-of2 .ensures) at (c .before .before .put .ensures)
 
 pub put-pair-spec : {M : Type 1} → statement M
 put-pair-spec =

@@ -17,19 +17,20 @@ abbrev μ-loop : tie.MeasureT-loop
 μ-loop out₀ at s to₀ i₀ out to i = length s - i
 
 loop-holds : tie.Need-loop-holds Inv-loop μ-loop
-loop-holds c = let A = c .before .before .before .args in
+loop-holds c = let entry : tie.Start Inv-loop μ-loop = search in let A = entry .args in
     (refl, omega arith, rw (encoded-none (A .s .now)) (written-start (A .out .now) (A .at) (c .least .result) (c .least .ensures .2)))
 
 loop-again : tie.Need-loop-again Inv-loop μ-loop
-loop-again c = let A = c .before .before .before .before .before .before .before .before .before .before .args in
-    let L = c .before .before .before .before .before .before .loop in (
+loop-again c = let at-loop : tie.At-loop Inv-loop μ-loop = search in let entry : tie.Start Inv-loop μ-loop = search in
+    let L = at-loop .loop in (
       omega arith,
       omega arith,
-      rw (encoded-more (A .s .now) (L .i)) (written-more _ _ _ _ _ _ _ _ (L .inv .2) (c .before .before .put-pair .ensures)),
+      rw (encoded-more (entry .args .s .now) (L .i)) (written-more _ _ _ _ _ _ _ _ (L .inv .2) (c .before .before .put-pair .ensures)),
     )
 
 returns : tie.Need-returns Inv-loop μ-loop
-returns c = let e : c .before .loop .i ≡ length (c .before .before .before .before .before .args .s .now) = omega arith in
+returns c = let entry : tie.Start Inv-loop μ-loop = search in
+    let e : c .before .loop .i ≡ length (entry .args .s .now) = omega arith in
     rw e at (c .before .loop .inv .2)
 
 pub put-pairs-spec : {M : Type 1} → statement M

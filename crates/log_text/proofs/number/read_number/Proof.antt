@@ -15,7 +15,8 @@ returns-2 c = simp (ne-eqb _ _ (c .before .before .if1 .left), ← c .before .is
 
 returns-3 : tie.Need-returns-3
 unfolding numberRead
-returns-3 c = simp (ne-eqb _ _ (c .before .before .before .if1 .left), ← c .before .before .is-padded .ensures, c .before .if2 .left, c .read-digits .ensures)
+returns-3 c = let at-if1 : tie.Else1 = search in
+    simp (ne-eqb _ _ (at-if1 .if1 .left), ← c .before .before .is-padded .ensures, c .before .if2 .left, c .read-digits .ensures)
 
 pub read-number-spec : {M : Type 1} → statement M
 read-number-spec = tie.close (tie.spec returns (λ c κs. search needs) returns-2 (λ c κs. search needs) returns-3)

@@ -1,4 +1,5 @@
--- `text::output::put` meets its contract. `bytes::copy` writes into the part of the buffer from the place on; `placed` says what that is in the whole buffer. Assumes nothing.
+-- `text::output::put` meets its contract. `bytes::copy` writes into the part of the buffer from the place on; `placed` says what that is in the whole
+-- buffer. Assumes nothing.
 use lib.Seq.{take-take, length-take-le}
 use native.Mathlib.Nat.{sub-zero}
 use Rattle.log_text.proofs.Place.{placed}
@@ -10,10 +11,11 @@ use Rattle.log_text.proofs.output.put.Statement.{statement}
 use Rattle.log_text.proofs.output.put.Tie as tie
 
 returns : tie.Need-returns
-returns c = let A = c .before .before .before .before .before .before .before .before .before .args in
-    let n = c .before .before .before .before .before .least2 .result in
+returns c =
+    let at-least2 : tie.After-least2 = search in let at-least : tie.After-least = search in let entry : tie.Start = search in let A = entry .args in
+    let n = at-least2 .least2 .result in
     let short : n ≤ length (A .s .now) = omega arith in
-    placed (A .out .now) (A .s .now) _ (A .at) (c .before .before .before .before .before .before .least .result) n (c .before .before .before .before .before .before .least .ensures .2) (c .before .before .before .before .before .least2 .ensures .2)
+    placed (A .out .now) (A .s .now) _ (A .at) (at-least .least .result) n (at-least .least .ensures .2) (at-least2 .least2 .ensures .2)
     (simp (sub-zero, length-take-le n (A .s .now) short, take-take n n (A .s .now) (omega arith)) at (c .before .before .copy .ensures .1))
 
 pub put-spec : {M : Type 1} → statement M

@@ -5,11 +5,11 @@ use Rattle.log_text.proofs.output.put_number.Statement.{statement}
 use Rattle.log_text.proofs.output.put_number.Tie as tie
 
 returns : tie.Need-returns
-returns c = let D = c .before .before .before .before .before .before .decimal in
+returns c = let at-decimal : tie.After-decimal = search in
     record {
-      count = D .result;
-      fewest = D .ensures .1 .0;
-      written = rw (sub-zero, D .ensures .1 .1) at (c .before .before .put .ensures);
+      count = at-decimal .decimal .result;
+      fewest = at-decimal .decimal .ensures .1 .0;
+      written = rw (sub-zero, at-decimal .decimal .ensures .1 .1) at (c .before .before .put .ensures);
     }
 
 pub put-number-spec : {M : Type 1} → statement M

@@ -19,14 +19,16 @@ loop-holds : tie.Need-loop-holds Inv-loop μ-loop
 loop-holds c = (omega arith, omega arith, sym (count-none _))
 
 add-n : tie.Need-add-n Inv-loop μ-loop
-add-n c = omega (arith, byte-small (eqb (getD (c .before .before .before .args .s .now) (c .before .before .loop .i) 0) (c .before .before .before .args .x)))
+add-n c = let entry : tie.Start Inv-loop μ-loop = search in
+    omega (arith, byte-small (eqb (getD (entry .args .s .now) (c .before .before .loop .i) 0) (entry .args .x)))
 
 loop-again : tie.Need-loop-again Inv-loop μ-loop
-loop-again c = let L = c .before .before .loop in (
-  omega arith,
-  omega (arith, byte-small (eqb (getD (c .before .before .before .args .s .now) (L .i) 0) (c .before .before .before .args .x))),
-  count-step (λ k. eqb (getD (c .before .before .before .args .s .now) k 0) (c .before .before .before .args .x)) (L .i) (L .n) (L .inv .2),
-)
+loop-again c = let entry : tie.Start Inv-loop μ-loop = search in
+    let L = c .before .before .loop in (
+      omega arith,
+      omega (arith, byte-small (eqb (getD (entry .args .s .now) (L .i) 0) (entry .args .x))),
+      count-step (λ k. eqb (getD (entry .args .s .now) k 0) (entry .args .x)) (L .i) (L .n) (L .inv .2),
+    )
 
 returns : tie.Need-returns Inv-loop μ-loop
 returns c = let e : c .before .loop .i ≡ length (c .before .before .args .s .now) = omega arith in

@@ -24,34 +24,30 @@ loop-holds c = (omega arith, rewritten-none _ _ 0 _ (omega arith), omega arith)
 -- the turn of row a
 turn-at :
     (c : tie.In-loop Inv-loop μ-loop)
-    → (let A = c .before .before .before .before .before .before .before .before .args in
-    let L = c .before .loop in
-    Turn (A .t .now) (A .n) (A .r) (c .before .before .before .before .before .before .wide .result) (c .before .before .before .wide2 .result) (c .before .before .before .before .row-of .result) (L .t) (L .a))
-turn-at c =
-    let S = c .before .before .before .before .before .before .before .before in
-    let A = S .args in
-    let early = c .before .before .before .before .before .before .wide in
-    let row = c .before .before .before .before .row-of in
-    let late = c .before .before .before .wide2 in
-    let L = c .before .loop in
-    turn (A .t .now) (A .n) (A .r) (omega arith) (omega arith) (S .pre .0 .2) (S .pre .1 .0) (S .pre .1 .1) (early .result) (late .result)
-    (early .ensures) (late .ensures) (row .result) (row .ensures) (L .t) (L .a) (omega arith) (L .inv .1)
+    → (let late : tie.After-wide2 Inv-loop μ-loop = search in let row : tie.After-row-of Inv-loop μ-loop = search in
+    let early : tie.After-wide Inv-loop μ-loop = search in let entry : tie.Start Inv-loop μ-loop = search in
+    let A = entry .args in let L = c .before .loop in
+    Turn (A .t .now) (A .n) (A .r) (early .wide .result) (late .wide2 .result) (row .row-of .result) (L .t) (L .a))
+turn-at c = let late : tie.After-wide2 Inv-loop μ-loop = search in let row : tie.After-row-of Inv-loop μ-loop = search in
+    let early : tie.After-wide Inv-loop μ-loop = search in let entry : tie.Start Inv-loop μ-loop = search in
+    let A = entry .args in let P = entry .pre in let L = c .before .loop in
+    turn (A .t .now) (A .n) (A .r) (omega arith) (omega arith) (P .0 .2) (P .1 .0) (P .1 .1) (early .wide .result) (late .wide2 .result)
+    (early .wide .ensures) (late .wide2 .ensures) (row .row-of .result) (row .row-of .ensures) (L .t) (L .a) (omega arith) (L .inv .1)
 
 add-via-2 : tie.Need-add-via-2 Inv-loop μ-loop
-add-via-2 c = omega (arith, turn-at (c .before .before) .via-small)
+add-via-2 c = omega (arith, turn-at (search) .via-small)
 
 relax-row-requires : tie.Need-relax-row-requires Inv-loop μ-loop
 relax-row-requires c κs =
-    let T = turn-at (c .before .before .before .before) in
-    let few = c .before .before .before .before .before .before .before .before .before .before .before .before .pre .0 .2 .few-more in (
-      (omega arith, omega arith, omega arith, omega (arith, c .before .before .before .before .before .before .before .before .before .before .wide .ensures), omega (arith, T .via-small), omega (arith, few)),
+    let T = turn-at (search) in (
+      (omega arith, omega arith, omega arith, omega arith, omega (arith, T .via-small), omega arith),
       (T .cells-small, (T .row-small, (T .row-whole, T .row-behind))),
     )
 
 loop-again : tie.Need-loop-again Inv-loop μ-loop
 loop-again c =
     let relaxed = c .before .before .relax-row in
-    (omega arith, turn-at (c .before .before .before .before .before .before .before) .next (relaxed .last .0) (relaxed .ensures), omega arith)
+    (omega arith, turn-at (search) .next (relaxed .last .0) (relaxed .ensures), omega arith)
 
 returns : tie.Need-returns Inv-loop μ-loop
 unfolding added overlaid

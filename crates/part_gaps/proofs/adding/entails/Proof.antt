@@ -10,16 +10,15 @@ use Rattle.part_gaps.proofs.adding.entails.Statement.{statement}
 use Rattle.part_gaps.proofs.adding.entails.Tie as tie
 
 add-result : tie.Need-add-result
-add-result c =
-    let A = c .before .before .before .before .before .args in
-    let late = c .before .before .before .wide in
+add-result c = let late : tie.After-wide = search in let entry : tie.Start = search in let A = entry .args in
     let early = c .before .before .wide2 in
-    let e : getD (A .t .now) (late .result * side + early .result) 0 ≡ cell (A .t .now) (A .r .late) (A .r .early) =
+    let e : getD (A .t .now) (late .wide .result * side + early .result) 0 ≡ cell (A .t .now) (A .r .late) (A .r .early) =
     ap (λ (k : ℕ). getD (A .t .now) k 0) (omega arith) in
-    omega (arith, c .before .before .before .before .before .pre .1)
+    omega arith
 
 returns : tie.Need-returns
-returns c = rw (c .before .before .before .before .wide .ensures, c .before .before .before .wide2 .ensures)
+returns c = let at-wide2 : tie.After-wide2 = search in let at-wide : tie.After-wide = search in
+    rw (at-wide .wide .ensures, at-wide2 .wide2 .ensures)
 
 pub entails-spec : {M : Type 1} → statement M
 entails-spec =

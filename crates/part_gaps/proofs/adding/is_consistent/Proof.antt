@@ -11,15 +11,14 @@ use Rattle.part_gaps.proofs.adding.is_consistent.Tie as tie
 
 add-result-2 : tie.Need-add-result-2
 add-result-2 c =
-    let A = c .before .before .before .before .before .before .args in
-    let early = c .before .before .before .before .wide in
-    let late = c .before .before .before .wide2 in
-    let e : getD (A .t .now) (early .result * side + late .result) 0 ≡ cell (A .t .now) (A .r .early) (A .r .late) =
+    let late : tie.After-wide2 = search in let early : tie.After-wide = search in let entry : tie.Start = search in let A = entry .args in
+    let e : getD (A .t .now) (early .wide .result * side + late .wide2 .result) 0 ≡ cell (A .t .now) (A .r .early) (A .r .late) =
     ap (λ (k : ℕ). getD (A .t .now) k 0) (omega arith) in
-    omega (arith, c .before .before .before .before .before .before .pre .1)
+    omega arith
 
 returns : tie.Need-returns
-returns c = rw (c .before .before .before .before .wide .ensures, c .before .before .before .wide2 .ensures)
+returns c = let at-wide2 : tie.After-wide2 = search in let at-wide : tie.After-wide = search in
+    rw (at-wide .wide .ensures, at-wide2 .wide2 .ensures)
 
 pub is-consistent-spec : {M : Type 1} → statement M
 is-consistent-spec =

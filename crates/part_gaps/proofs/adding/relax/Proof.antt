@@ -20,31 +20,28 @@ loop-holds : tie.Need-loop-holds Inv-loop μ-loop
 loop-holds c = (omega arith, rewritten-none _ _ _ _ (omega arith), omega arith)
 
 add-least-2 : tie.Need-add-least-2 Inv-loop μ-loop
-add-least-2 c = omega (arith, c .before .before .before .before .before .pre .1 .1 .0 (c .before .before .before .loop .b) (omega arith))
+add-least-2 c = let at-loop : tie.At-loop Inv-loop μ-loop = search in let entry : tie.Start Inv-loop μ-loop = search in
+    omega (arith, entry .pre .1 .1 .0 (at-loop .loop .b) (omega arith))
 
 sub-least : tie.Need-sub-least Inv-loop μ-loop
-sub-least c = omega (arith, c .before .before .before .before .before .pre .1 .1 .1 (c .before .before .before .loop .b) (omega arith))
+sub-least c = let at-loop : tie.At-loop Inv-loop μ-loop = search in let entry : tie.Start Inv-loop μ-loop = search in
+    omega (arith, entry .pre .1 .1 .1 (at-loop .loop .b) (omega arith))
 
 least-requires : tie.Need-least-requires Inv-loop μ-loop
-least-requires c κs =
-    let S = c .before .before .before .before .before in
-    let A = S .args in
-    let L = c .before .before .before .loop in
+least-requires c κs = let at-loop : tie.At-loop Inv-loop μ-loop = search in let entry : tie.Start Inv-loop μ-loop = search in let A = entry .args in
     let f = relaxed (A .t .now) (A .row .now) (A .via) (A .cut) in
-    let at = A .a * side + L .b in
-    let still = ahead f (A .t .now) (L .t) (A .a * side) at (L .inv .1) at (omega arith) in
-    (omega (arith, still, S .pre .1 .0 (L .b) (omega arith)), omega (arith, S .pre .1 .1 .0 (L .b) (omega arith)))
+    let at = A .a * side + at-loop .loop .b in
+    let still = ahead f (A .t .now) (at-loop .loop .t) (A .a * side) at (at-loop .loop .inv .1) at (omega arith) in
+    (omega (arith, still, entry .pre .1 .0 (at-loop .loop .b) (omega arith)), omega (arith, entry .pre .1 .1 .0 (at-loop .loop .b) (omega arith)))
 
 loop-again : tie.Need-loop-again Inv-loop μ-loop
-loop-again c =
-    let L = c .before .before .before .before .loop in
-    let A = c .before .before .before .before .before .before .args in
+loop-again c = let at-loop : tie.At-loop Inv-loop μ-loop = search in let entry : tie.Start Inv-loop μ-loop = search in let A = entry .args in
     let f = relaxed (A .t .now) (A .row .now) (A .via) (A .cut) in
-    let at = A .a * side + L .b in
-    let column : at % side ≡ L .b = omega arith in (
+    let at = A .a * side + at-loop .loop .b in
+    let column : at % side ≡ at-loop .loop .b = omega arith in (
       omega arith,
-      store f (A .t .now) (L .t) (A .a * side) at (L .inv .1) (c .least .result) _ (omega arith) (omega arith) (omega arith)
-          (c .least .ensures ∙ rw (ahead f (A .t .now) (L .t) (A .a * side) at (L .inv .1) at (omega arith), column)),
+      store f (A .t .now) (at-loop .loop .t) (A .a * side) at (at-loop .loop .inv .1) (c .least .result) _ (omega arith) (omega arith) (omega arith)
+          (c .least .ensures ∙ rw (ahead f (A .t .now) (at-loop .loop .t) (A .a * side) at (at-loop .loop .inv .1) at (omega arith), column)),
       simp length-set (omega arith),
     )
 

@@ -6,12 +6,10 @@ use Rattle.part_gaps.proofs.adding.relax_row.Statement.{statement}
 use Rattle.part_gaps.proofs.adding.relax_row.Tie as tie
 
 add-if1-2 : tie.Need-add-if1-2
-add-if1-2 c = let S = c .before .before in omega (arith, S .pre .1 .0 (S .args .early) (omega arith))
+add-if1-2 c = let entry : tie.Start = search in omega (arith, entry .pre .1 .0 (entry .args .early) (omega arith))
 
 returns : tie.Need-returns
-returns c =
-    let A = c .before .before .before .args in
-    let p = c .before .before .before .pre in
+returns c = let entry : tie.Start = search in let A = entry .args in let p = entry .pre in
     relaxed-same (A .t .now) (A .row .now) (A .a) (A .n) (A .early) (A .via) (A .cut) (p .0 .0) (p .0 .1) (p .0 .2) (p .1 .1 .1 .1) (c .if1 .taken)
 
 pub relax-row-spec : {M : Type 1} → statement M

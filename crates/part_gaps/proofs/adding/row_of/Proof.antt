@@ -20,10 +20,9 @@ loop-holds : tie.Need-loop-holds Inv-loop μ-loop
 loop-holds c = (omega arith, rewritten-none _ _ 0 0 (omega arith))
 
 loop-again : tie.Need-loop-again Inv-loop μ-loop
-loop-again c =
+loop-again c = let entry : tie.Start Inv-loop μ-loop = search in
     let L = c .before .before .loop in
-    let A = c .before .before .before .args in
-    let f : ℕ → ℕ = λ k. cell (A .t .now) (A .i) k in
+    let f : ℕ → ℕ = λ k. cell (entry .args .t .now) (entry .args .i) k in
     (omega arith, store f (replicate side 0) (L .row) 0 (L .j) (L .inv .1) (f (L .j)) _ (omega arith) (omega arith) refl refl)
 
 returns : tie.Need-returns Inv-loop μ-loop

@@ -18,12 +18,11 @@ loop-holds : tie.Need-loop-holds Inv-loop μ-loop
 loop-holds c = (omega arith, rewritten-none _ _ 0 0 (omega arith), refl)
 
 loop-again : tie.Need-loop-again Inv-loop μ-loop
-loop-again c =
+loop-again c = let entry : tie.Start Inv-loop μ-loop = search in
     let L = c .before .before .loop in
-    let A = c .before .before .before .args in
-    let f : ℕ → ℕ = λ i. getD (A .t .now) i 0 in (
+    let f : ℕ → ℕ = λ i. getD (entry .args .t .now) i 0 in (
       omega arith,
-      store f (A .next .now) (L .next) 0 (L .k) (L .inv .1) (f (L .k)) _ (omega arith) (omega arith) refl refl,
+      store f (entry .args .next .now) (L .next) 0 (L .k) (L .inv .1) (f (L .k)) _ (omega arith) (omega arith) refl refl,
       simp length-set (L .inv .2),
     )
 

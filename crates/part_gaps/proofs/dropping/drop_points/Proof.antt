@@ -6,11 +6,10 @@ use Rattle.part_gaps.proofs.dropping.drop_points.Statement.{statement}
 use Rattle.part_gaps.proofs.dropping.drop_points.Tie as tie
 
 returns : tie.Need-returns
-returns c =
-    let A = c .before .before .before .before .before .before .before .before .before .args in
-    let rows = c .before .before .before .before .before .before .drop-rows in
+returns c = let rows : tie.After-drop-rows = search in let entry : tie.Start = search in let A = entry .args in
     let rest = c .before .before .clear-cells in
-    rest-cleared (A .t .now) (rows .last .0) (rest .last .0) (A .f) (A .m) (A .n) (omega arith) (omega arith) (rows .ensures) (rest .ensures)
+    rest-cleared (A .t .now) (rows .drop-rows .last .0) (rest .last .0) (A .f) (A .m) (A .n) (omega arith) (omega arith) (rows .drop-rows .ensures)
+    (rest .ensures)
 
 pub drop-points-spec : {M : Type 1} → statement M
 drop-points-spec =

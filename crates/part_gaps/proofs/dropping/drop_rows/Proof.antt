@@ -24,9 +24,8 @@ drop-columns-requires : tie.Need-drop-columns-requires Inv-loop μ-loop
 drop-columns-requires c κs = (omega arith, omega arith, omega arith, omega arith)
 
 loop-again : tie.Need-loop-again Inv-loop μ-loop
-loop-again c =
-    let A = c .before .before .before .before .before .before .before .args in
-    let L = c .before .before .before .before .before .loop in
+loop-again c = let at-loop : tie.At-loop Inv-loop μ-loop = search in let entry : tie.Start Inv-loop μ-loop = search in let A = entry .args in
+    let L = at-loop .loop in
     let dropped = c .before .before .drop-columns in (
       omega arith,
       rows-next (A .t .now) (L .t) (dropped .last .0) (A .f) (A .m) (A .left) (L .a) (omega arith) (omega arith) (omega arith) (L .inv .1) (dropped .ensures),

@@ -19,9 +19,9 @@ loop-holds : tie.Need-loop-holds Inv-loop μ-loop
 loop-holds c = (omega arith, rewritten-none _ _ _ _ (omega arith), omega arith)
 
 loop-again : tie.Need-loop-again Inv-loop μ-loop
-loop-again c =
+loop-again c = let entry : tie.Start Inv-loop μ-loop = search in
     let L = c .before .before .loop in
-    let A = c .before .before .before .args in
+    let A = entry .args in
     let f : ℕ → ℕ = λ i. getD (A .t .now) (A .from + (i - A .to)) 0 in
     let at = A .to + L .k in
     let same : A .from + L .k ≡ A .from + (at - A .to) = omega arith in (

@@ -22,31 +22,27 @@ loop-holds c =
     (omega arith, grown-none (A .t .now) (A .n) (A .most) (omega arith) (omega arith), omega arith)
 
 hang-requires : tie.Need-hang-requires Inv-loop μ-loop
-hang-requires c κs =
-    let S = c .before .before .before .before in
-    let A = S .args in
+hang-requires c κs = let entry : tie.Start Inv-loop μ-loop = search in let A = entry .args in
     let L = c .before .before .loop in (
       (omega arith, omega arith, omega arith, omega arith),
       λ i h.
           rw (L .inv .1)
-          (grown-column (A .t .now) (A .n) (L .k) (A .most) (omega arith) (omega arith) (bias + bias) (omega arith) (S .pre .1) i h),
+          (grown-column (A .t .now) (A .n) (L .k) (A .most) (omega arith) (omega arith) (bias + bias) (omega arith) (entry .pre .1) i h),
     )
 
 loop-again : tie.Need-loop-again Inv-loop μ-loop
-loop-again c =
-    let L = c .before .before .before .before .before .loop in
-    let A = c .before .before .before .before .before .before .before .args in (
+loop-again c = let at-loop : tie.At-loop Inv-loop μ-loop = search in let entry : tie.Start Inv-loop μ-loop = search in
+    let A = entry .args in (
       omega arith,
       c .before .before .hang .ensures
-          ∙ grown-next (A .t .now) (L .t) (A .n) (L .k) (A .most) (omega arith) (omega arith) (omega arith) (L .inv .1),
+          ∙ grown-next (A .t .now) (at-loop .loop .t) (A .n) (at-loop .loop .k) (A .most) (omega arith) (omega arith) (omega arith) (at-loop .loop .inv .1),
       omega arith,
     )
 
 returns : tie.Need-returns Inv-loop μ-loop
-returns c =
+returns c = let entry : tie.Start Inv-loop μ-loop = search in
     let L = c .before .loop in
-    let A = c .before .before .before .args in
-    let e : L .k ≡ A .m = omega arith in
+    let e : L .k ≡ entry .args .m = omega arith in
     rw e at (L .inv .1)
 
 pub grow-spec : {M : Type 1} → statement M

@@ -10,11 +10,10 @@ same-length : tie.Need-same-length
 same-length c = simp length-set (omega arith)
 
 returns : tie.Need-returns
-returns c =
-    let A = c .before .before .before .before .before .before .before .before .before .args in
-    let column = c .before .before .before .before .before .before .hang-column in
+returns c = let column : tie.After-hang-column = search in let entry : tie.Start = search in let A = entry .args in
     let row = c .before .before .hang-row in
-    hung-overlaid (A .t .now) (A .n) (A .most) (omega arith) (omega arith) (column .last .0) (row .last .0) (omega arith) (column .ensures)
+    hung-overlaid (A .t .now) (A .n) (A .most) (omega arith) (omega arith) (column .hang-column .last .0) (row .last .0) (omega arith)
+    (column .hang-column .ensures)
     (omega arith) (row .ensures)
 
 pub hang-spec : {M : Type 1} → statement M

@@ -28,15 +28,14 @@ loop-holds : tie.Need-loop-holds Inv-loop μ-loop
 loop-holds c = (omega arith, rewritten-none _ _ 0 _ (omega arith), omega arith)
 
 add-t : tie.Need-add-t Inv-loop μ-loop
-add-t c =
+add-t c = let entry : tie.Start Inv-loop μ-loop = search in
     let L = c .before .before .loop in
-    let A = c .before .before .before .args in
-    omega (arith, to-origin (A .t .now) (L .t) (A .n) (A .most) (L .i) (L .inv .1), c .before .before .before .pre .1 (L .i) (omega arith))
+    omega (arith, to-origin (entry .args .t .now) (L .t) (entry .args .n) (entry .args .most) (L .i) (L .inv .1), entry .pre .1 (L .i) (omega arith))
 
 loop-again : tie.Need-loop-again Inv-loop μ-loop
-loop-again c =
+loop-again c = let entry : tie.Start Inv-loop μ-loop = search in
     let L = c .before .before .loop in
-    let A = c .before .before .before .args in (
+    let A = entry .args in (
       omega arith,
       column-next (A .t .now) (A .n) (A .most) (omega arith) (omega arith) (L .t) (L .i) _ (omega arith) (L .inv .1) (omega arith)
           (ap (λ (x : ℕ). x + A .most) (to-origin (A .t .now) (L .t) (A .n) (A .most) (L .i) (L .inv .1))),

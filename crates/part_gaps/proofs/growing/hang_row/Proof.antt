@@ -19,15 +19,14 @@ loop-holds : tie.Need-loop-holds Inv-loop μ-loop
 loop-holds c = (omega arith, rewritten-none _ _ _ _ (omega arith), omega arith)
 
 loop-again : tie.Need-loop-again Inv-loop μ-loop
-loop-again c =
+loop-again c = let entry : tie.Start Inv-loop μ-loop = search in
     let L = c .before .before .loop in
-    let A = c .before .before .before .args in
-    let f : ℕ → ℕ = λ k. getD (A .t .now) (k % side) 0 in
-    let at = A .n * side + L .j in
+    let f : ℕ → ℕ = λ k. getD (entry .args .t .now) (k % side) 0 in
+    let at = entry .args .n * side + L .j in
     let column : at % side ≡ L .j = omega arith in (
       omega arith,
-      store f (A .t .now) (L .t) (A .n * side) at (L .inv .1) (getD (L .t) (L .j) 0) _ (omega arith) (omega arith) (omega arith)
-          (rw (column, L .inv .1) (rewritten-below f (A .t .now) (A .n * side) at (L .j) (omega arith))),
+      store f (entry .args .t .now) (L .t) (entry .args .n * side) at (L .inv .1) (getD (L .t) (L .j) 0) _ (omega arith) (omega arith) (omega arith)
+          (rw (column, L .inv .1) (rewritten-below f (entry .args .t .now) (entry .args .n * side) at (L .j) (omega arith))),
       simp length-set (omega arith),
     )
 

@@ -21,11 +21,10 @@ loop-holds : tie.Need-loop-holds Inv-loop μ-loop
 loop-holds c = (omega arith, allBelow-none _)
 
 loop-again : tie.Need-loop-again Inv-loop μ-loop
-loop-again c =
+loop-again c = let entry : tie.Start Inv-loop μ-loop = search in
     let L = c .before .before .loop in
-    let A = c .before .before .before .args in
-    let f : ℕ → Bool = λ k. eqb (getD (A .t .now) (A .from + k) 0) 0 in
-    (omega arith, none-joined (L .all) (getD (A .t .now) (A .from + L .k) 0) ∙ allBelow-next f (L .k) _ _ (L .inv .1) refl)
+    let f : ℕ → Bool = λ k. eqb (getD (entry .args .t .now) (entry .args .from + k) 0) 0 in
+    (omega arith, none-joined (L .all) (getD (entry .args .t .now) (entry .args .from + L .k) 0) ∙ allBelow-next f (L .k) _ _ (L .inv .1) refl)
 
 returns : tie.Need-returns Inv-loop μ-loop
 returns c =

@@ -23,8 +23,8 @@ loop-again c =
     (omega arith, allBelow-next _ (L .i) (L .ok) _ (L .inv .1) (c .row-in-range .ensures))
 
 returns : tie.Need-returns Inv-loop μ-loop
-returns c =
-    let e : c .before .loop .i ≡ c .before .before .before .args .n = omega arith in
+returns c = let entry : tie.Start Inv-loop μ-loop = search in
+    let e : c .before .loop .i ≡ entry .args .n = omega arith in
     rw e at (c .before .loop .inv .1)
 
 pub are-rows-in-range-spec : {M : Type 1} → statement M

@@ -21,9 +21,8 @@ loop-holds c = (omega arith, allBelow-none _, refl)
 
 loop-again : tie.Need-loop-again Inv-loop μ-loop
 unfolding inWindows
-loop-again c =
-    let L = c .before .before .before .loop in
-    let t = c .before .before .before .before .args .t .now in
+loop-again c = let at-loop : tie.At-loop Inv-loop μ-loop = search in let entry : tie.Start Inv-loop μ-loop = search in let L = at-loop .loop in
+    let t = entry .args .t .now in
     (omega arith, allBelow-next _ (L .i) (L .ok) _ (L .inv .1) (rw (origin-column t (L .i), origin-row t (L .i))), refl)
 
 returns : tie.Need-returns Inv-loop μ-loop

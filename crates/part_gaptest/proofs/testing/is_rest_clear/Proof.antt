@@ -24,27 +24,23 @@ loop-holds c =
     (omega arith, omega arith, rw none (sym (allBelow-none _)))
 
 are-clear-requires : tie.Need-are-clear-requires Inv-loop μ-loop
-are-clear-requires c κs = (c .before .before .before .pre .0, omega arith)
+are-clear-requires c κs = let entry : tie.Start Inv-loop μ-loop = search in (entry .pre .0, omega arith)
 
 returns : tie.Need-returns Inv-loop μ-loop
-returns c =
-    let A = c .before .before .before .before .before .args in
-    let L = c .before .before .before .loop in
+returns c = let at-loop : tie.At-loop Inv-loop μ-loop = search in let entry : tie.Start Inv-loop μ-loop = search in let A = entry .args in
+    let L = at-loop .loop in
     clear-part (A .t .now) (A .from) (L .at) 256 (L .inv .0) _ (omega arith) (sym (c .before .are-clear .ensures) ∙ not-true _ (c .if1 .taken))
 
 loop-again : tie.Need-loop-again Inv-loop μ-loop
-loop-again c =
-    let A = c .before .before .before .before .before .args in
-    let L = c .before .before .before .loop in
-    let whole = clear-rest (A .t .now) (A .from) (L .at) 256 (L .inv .0) (L .at + 256 - A .from) (omega arith) (L .inv .2) in
+loop-again c = let at-loop : tie.At-loop Inv-loop μ-loop = search in let entry : tie.Start Inv-loop μ-loop = search in let L = at-loop .loop in
+    let whole = clear-rest (entry .args .t .now) (entry .args .from) (L .at) 256 (L .inv .0) (L .at + 256 - entry .args .from) (omega arith) (L .inv .2) in
     (omega arith, omega arith, sym whole ∙ sym (c .before .are-clear .ensures) ∙ not-false _ (c .if1 .left))
 
 are-clear-requires-2 : tie.Need-are-clear-requires-2 Inv-loop μ-loop
-are-clear-requires-2 c κs = (c .before .before .before .pre .0, omega arith)
+are-clear-requires-2 c κs = let entry : tie.Start Inv-loop μ-loop = search in (entry .pre .0, omega arith)
 
 returns-2 : tie.Need-returns-2 Inv-loop μ-loop
-returns-2 c =
-    let A = c .before .before .before .before .args in
+returns-2 c = let entry : tie.Start Inv-loop μ-loop = search in let A = entry .args in
     let L = c .before .before .loop in
     c .are-clear2 .ensures ∙ clear-rest (A .t .now) (A .from) (L .at) (cellCount - L .at) (L .inv .0) (cellCount - A .from) (omega arith) (L .inv .2)
 

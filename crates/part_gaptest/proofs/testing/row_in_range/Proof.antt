@@ -23,11 +23,9 @@ loop-holds : tie.Need-loop-holds Inv-loop μ-loop
 loop-holds c = (omega arith, allBelow-none _)
 
 loop-again : tie.Need-loop-again Inv-loop μ-loop
-loop-again c =
-    let L = c .before .before .before .loop in
-    let A = c .before .before .before .before .before .args in
-    let f : ℕ → Bool = λ k. leb (cell (A .t .now) (A .i) k) (limit (A .n) k) in
-    (omega arith, allBelow-next f (L .j) (L .ok) _ (L .inv .1) (ap (leb (cell (A .t .now) (A .i) (L .j))) (c .limit .ensures)))
+loop-again c = let at-loop : tie.At-loop Inv-loop μ-loop = search in let entry : tie.Start Inv-loop μ-loop = search in let L = at-loop .loop in
+    let f : ℕ → Bool = λ k. leb (cell (entry .args .t .now) (entry .args .i) k) (limit (entry .args .n) k) in
+    (omega arith, allBelow-next f (L .j) (L .ok) _ (L .inv .1) (ap (leb (cell (entry .args .t .now) (entry .args .i) (L .j))) (c .limit .ensures)))
 
 returns : tie.Need-returns Inv-loop μ-loop
 returns c =

@@ -20,19 +20,20 @@ loop-holds : tie.Need-loop-holds Inv-loop μ-loop
 loop-holds c = (omega arith, sym (allBelow-none _))
 
 few-way-holds-requires : tie.Need-few-way-holds-requires Inv-loop μ-loop
-few-way-holds-requires c κs = ((omega arith, omega arith, omega arith, omega arith), c .before .before .before .pre .1)
+few-way-holds-requires c κs = let entry : tie.Start Inv-loop μ-loop = search in
+    ((omega arith, omega arith, omega arith, omega arith), entry .pre .1)
 
 returns : tie.Need-returns Inv-loop μ-loop
-returns c = allBelow-fails _ _ (c .before .before .before .loop .j) (omega arith) (sym (c .before .few-way-holds .ensures) ∙ not-true _ (c .if1 .taken))
+returns c = let at-loop : tie.At-loop Inv-loop μ-loop = search in
+    allBelow-fails _ _ (at-loop .loop .j) (omega arith) (sym (c .before .few-way-holds .ensures) ∙ not-true _ (c .if1 .taken))
 
 loop-again : tie.Need-loop-again Inv-loop μ-loop
-loop-again c =
-    let L = c .before .before .before .loop in
-    (omega arith, allBelow-passes _ (L .j) (L .inv .1) (sym (c .before .few-way-holds .ensures) ∙ not-false _ (c .if1 .left)))
+loop-again c = let at-loop : tie.At-loop Inv-loop μ-loop = search in
+    (omega arith, allBelow-passes _ (at-loop .loop .j) (at-loop .loop .inv .1) (sym (c .before .few-way-holds .ensures) ∙ not-false _ (c .if1 .left)))
 
 returns-2 : tie.Need-returns-2 Inv-loop μ-loop
-returns-2 c =
-    let e : c .before .loop .j ≡ c .before .before .before .args .n = omega arith in
+returns-2 c = let entry : tie.Start Inv-loop μ-loop = search in
+    let e : c .before .loop .j ≡ entry .args .n = omega arith in
     sym (rw e at (c .before .loop .inv .1))
 
 pub few-row-holds-spec : {M : Type 1} → statement M

@@ -26,37 +26,34 @@ loop-holds c = (omega arith, omega arith, allBelow-none _)
 
 lifted-by-requires : tie.Need-lifted-by-requires Inv-loop μ-loop
 lifted-by-requires c κs =
-    let S = c .before .before .before .before .before .before .before in
-    let k = c .before .before .before .before .loop .k in
-    let A = S .args in
-    let row = inRange-row (A .t .now) (A .n) (omega arith) (S .pre .1 .0) in
+    let at-loop : tie.At-loop Inv-loop μ-loop = search in let entry : tie.Start Inv-loop μ-loop = search in let k = at-loop .loop .k in
+    let A = entry .args in
+    let row = inRange-row (A .t .now) (A .n) (omega arith) (entry .pre .1 .0) in
     let fits = few-fits (A .n) k 0 _ _ (omega arith) (row (A .i) k (omega arith) (omega arith)) (row (A .j) k (omega arith) (omega arith)) in
-    let e = lift-at (A .lifts .now) (A .n) k (S .pre .1 .1) (omega arith) (omega arith) in (
-      inRange-bounded (A .t .now) (A .n) (omega arith) (S .pre .1 .0) (A .i) (A .j) (omega arith) (omega arith),
+    let e = lift-at (A .lifts .now) (A .n) k (entry .pre .1 .1) (omega arith) (omega arith) in (
+      inRange-bounded (A .t .now) (A .n) (omega arith) (entry .pre .1 .0) (A .i) (A .j) (omega arith) (omega arith),
       fits .1,
-      omega (arith, e, fits .0),
-      omega (arith, e, fits .2),
+      omega (arith, e),
+      omega (arith, e),
     )
 
 loop-again : tie.Need-loop-again Inv-loop μ-loop
-loop-again c =
-    let S = c .before .before .before .before .before .before .before .before in
-    let A = S .args in
-    let L = c .before .before .before .before .before .loop in
-    let row = inRange-row (A .t .now) (A .n) (omega arith) (S .pre .1 .0) in
-    let e = lift-at (A .lifts .now) (A .n) (L .k) (S .pre .1 .1) (omega arith) (omega arith) in
-    let first = inRange-bounded (A .t .now) (A .n) (omega arith) (S .pre .1 .0) (A .i) (A .j) (omega arith) (omega arith) in
-    let new = c .lifted-by .ensures ∙ ap (λ (z : ℕ). cell (A .t .now) (A .i) (A .j) + (z - cell (A .t .now) (A .i) (L .k)) + cell (A .t .now) (A .j) (L .k)) e in
+loop-again c = let at-loop : tie.At-loop Inv-loop μ-loop = search in let entry : tie.Start Inv-loop μ-loop = search in let A = entry .args in
+    let L = at-loop .loop in
+    let row = inRange-row (A .t .now) (A .n) (omega arith) (entry .pre .1 .0) in
+    let e = lift-at (A .lifts .now) (A .n) (L .k) (entry .pre .1 .1) (omega arith) (omega arith) in
+    let first = inRange-bounded (A .t .now) (A .n) (omega arith) (entry .pre .1 .0) (A .i) (A .j) (omega arith) (omega arith) in
+    let new = c .lifted-by .ensures ∙ ap (λ (z : ℕ). cell (A .t .now) (A .i) (A .j) + (z - cell (A .t .now) (A .i) (L .k)) + cell (A .t .now) (A .j) (L .k))
+    e in
     let turn =
     few-turn (A .t .now) (A .n) (A .i) (A .j) (L .k) (L .all) _ (omega arith) first (row (A .i) (L .k) (omega arith) (omega arith))
     (row (A .j) (L .k) (omega arith) (omega arith)) (L .inv .1) (L .inv .2) new in
     (omega arith, turn .0, turn .1)
 
 returns : tie.Need-returns Inv-loop μ-loop
-returns c =
-    let A = c .before .before .before .before .args in
+returns c = let entry : tie.Start Inv-loop μ-loop = search in
     let e : c .before .loop .k ≡ 16 = omega arith in
-    rw e at (c .before .loop .inv .2) ∙ allBelow-live (holds (A .t .now) (A .i) (A .j)) (A .n) 16 (omega arith)
+    rw e at (c .before .loop .inv .2) ∙ allBelow-live (holds (entry .args .t .now) (entry .args .i) (entry .args .j)) (entry .args .n) 16 (omega arith)
 
 pub few-way-holds-spec : {M : Type 1} → statement M
 few-way-holds-spec =

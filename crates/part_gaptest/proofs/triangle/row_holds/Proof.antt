@@ -24,26 +24,25 @@ partner-requires : tie.Need-partner-requires Inv-loop μ-loop
 partner-requires c κs = (omega arith, omega arith)
 
 ways-hold-requires : tie.Need-ways-hold-requires Inv-loop μ-loop
-ways-hold-requires c κs = ((omega arith, omega arith, omega arith, omega arith, c .partner .ensures .2), c .before .before .before .before .pre .1)
+ways-hold-requires c κs = let entry : tie.Start Inv-loop μ-loop = search in
+    ((omega arith, omega arith, omega arith, omega arith, c .partner .ensures .2), entry .pre .1)
 
 returns : tie.Need-returns Inv-loop μ-loop
-returns c =
-    let L = c .before .before .before .before .loop in
-    pair-fails _ _ (L .j) _ (omega arith) (c .before .before .partner .ensures .2)
+returns c = let at-loop : tie.At-loop Inv-loop μ-loop = search in
+    pair-fails _ _ (at-loop .loop .j) _ (omega arith) (c .before .before .partner .ensures .2)
     (sym (c .before .ways-hold .ensures) ∙ not-true _ (c .if1 .taken))
 
 loop-less : tie.Need-loop-less Inv-loop μ-loop
-loop-less c = let P = c .before .before .partner .ensures in omega (arith, P .1, P .2)
+loop-less c = omega arith
 
 loop-again : tie.Need-loop-again Inv-loop μ-loop
-loop-again c =
-    let L = c .before .before .before .before .loop in
+loop-again c = let at-loop : tie.At-loop Inv-loop μ-loop = search in
     let P = c .before .before .partner .ensures in
-    (omega (arith, P .2), pair-next _ (L .j) _ (L .inv .1) (P .0) (sym (c .before .ways-hold .ensures) ∙ not-false _ (c .if1 .left)))
+    (omega arith, pair-next _ (at-loop .loop .j) _ (at-loop .loop .inv .1) (P .0) (sym (c .before .ways-hold .ensures) ∙ not-false _ (c .if1 .left)))
 
 returns-2 : tie.Need-returns-2 Inv-loop μ-loop
-returns-2 c =
-    let e : c .before .loop .j ≡ c .before .before .before .args .n = omega arith in
+returns-2 c = let entry : tie.Start Inv-loop μ-loop = search in
+    let e : c .before .loop .j ≡ entry .args .n = omega arith in
     sym (rw e at (c .before .loop .inv .1))
 
 pub row-holds-spec : {M : Type 1} → statement M

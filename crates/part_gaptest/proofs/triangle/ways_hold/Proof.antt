@@ -24,33 +24,33 @@ loop-holds c = (omega arith, omega arith, allBelow-none _)
 
 lifted-requires : tie.Need-lifted-requires Inv-loop μ-loop
 lifted-requires c κs =
-    let S = c .before .before .before .before .before .before .before in
-    let k = c .before .before .before .loop .k in
-    let at = S .pre .1 in
-    (at (S .args .i) (S .args .a) (omega arith) (omega arith), at (S .args .a) k (omega arith) (omega arith), at (S .args .i) k (omega arith) (omega arith))
+    let at-loop : tie.At-loop Inv-loop μ-loop = search in let entry : tie.Start Inv-loop μ-loop = search in let k = at-loop .loop .k in
+    let at = entry .pre .1 in (
+      at (entry .args .i) (entry .args .a) (omega arith) (omega arith),
+      at (entry .args .a) k (omega arith) (omega arith),
+      at (entry .args .i) k (omega arith) (omega arith),
+    )
 
 lifted-requires-2 : tie.Need-lifted-requires-2 Inv-loop μ-loop
 lifted-requires-2 c κs =
-    let S = c .before .before .before .before .before .before .before .before .before .before in
-    let k = c .before .before .before .before .before .before .loop .k in
-    let at = S .pre .1 in
-    (at (S .args .i) (S .args .b) (omega arith) (omega arith), at (S .args .b) k (omega arith) (omega arith), at (S .args .i) k (omega arith) (omega arith))
+    let at-loop : tie.At-loop Inv-loop μ-loop = search in let entry : tie.Start Inv-loop μ-loop = search in let k = at-loop .loop .k in
+    let at = entry .pre .1 in (
+      at (entry .args .i) (entry .args .b) (omega arith) (omega arith),
+      at (entry .args .b) k (omega arith) (omega arith),
+      at (entry .args .i) k (omega arith) (omega arith),
+    )
 
 loop-again : tie.Need-loop-again Inv-loop μ-loop
-loop-again c =
-    let S = c .before .before .before .before .before .before .before .before .before .before .before in
-    let A = S .args in
-    let L = c .before .before .before .before .before .before .before .loop in
-    let at = S .pre .1 in
+loop-again c = let at-lifted : tie.After-lifted Inv-loop μ-loop = search in let at-loop : tie.At-loop Inv-loop μ-loop = search in
+    let entry : tie.Start Inv-loop μ-loop = search in let A = entry .args in let L = at-loop .loop in let at = entry .pre .1 in
     let turn =
     ways-turn (A .t .now) (A .i) (A .a) (A .b) (L .k) (L .all) _ _ (at (A .i) (A .a) (omega arith) (omega arith)) (at (A .i) (A .b) (omega arith) (omega arith))
     (at (A .a) (L .k) (omega arith) (omega arith)) (at (A .b) (L .k) (omega arith) (omega arith)) (at (A .i) (L .k) (omega arith) (omega arith)) (L .inv .1)
-    (L .inv .2) (c .before .before .before .lifted .ensures) (c .lifted2 .ensures) in
+    (L .inv .2) (at-lifted .lifted .ensures) (c .lifted2 .ensures) in
     (omega arith, turn .0, turn .1)
 
 returns : tie.Need-returns Inv-loop μ-loop
-returns c =
-    let A = c .before .before .before .before .before .args in
+returns c = let entry : tie.Start Inv-loop μ-loop = search in let A = entry .args in
     let e : c .before .loop .k ≡ A .n = omega arith in
     rw e at (c .before .loop .inv .2) ∙ allBelow-both (holds (A .t .now) (A .i) (A .a)) (holds (A .t .now) (A .i) (A .b)) (A .n)
 

@@ -22,20 +22,18 @@ loop-holds c = (omega arith, omega arith, search (needs, length-mapped))
 
 add-sum : tie.Need-add-sum Inv-loop μ-loop
 unfolding total
-add-sum c =
-    let entry = c .before .before .before .before in
-    let q = entry .args .t1 in
-    omega (arith, ap total (held-next (q .count) (q .jobs) (c .before .before .before .loop .k) noJob (omega arith) (omega arith)), entry .pre .points)
+add-sum c = let at-loop : tie.At-loop Inv-loop μ-loop = search in let entry : tie.Start Inv-loop μ-loop = search in let q = entry .args .t1 in
+    omega (arith, ap total (held-next (q .count) (q .jobs) (at-loop .loop .k) noJob (omega arith) (omega arith)))
 
 loop-again : tie.Need-loop-again Inv-loop μ-loop
 unfolding total
-loop-again c = let q = c .before .before .before .before .args .t1 in
-    (omega arith, omega (arith, ap total (held-next (q .count) (q .jobs) (c .before .before .before .loop .k) noJob (omega arith) (omega arith))), c .before .before .before .loop .inv .2)
+loop-again c = let at-loop : tie.At-loop Inv-loop μ-loop = search in let entry : tie.Start Inv-loop μ-loop = search in let q = entry .args .t1 in
+    (omega arith, omega (arith, ap total (held-next (q .count) (q .jobs) (at-loop .loop .k) noJob (omega arith) (omega arith))), at-loop .loop .inv .2)
 
 returns : tie.Need-returns Inv-loop μ-loop
 unfolding total
 returns c = let q = c .before .before .args .t1 in
-    omega (arith, c .before .loop .inv .1, ap total (held-over (q .count) (q .jobs) (c .before .loop .k) (omega arith)))
+    omega (arith, ap total (held-over (q .count) (q .jobs) (c .before .loop .k) (omega arith)))
 
 pub points-spec : {M : Type 1} → statement M
 points-spec =

@@ -11,14 +11,15 @@ use Rattle.part_lines.proofs.leaving.stay_use.Statement.{statement}
 use Rattle.part_lines.proofs.leaving.stay_use.Tie as tie
 
 returns : tie.Need-returns
-returns c = let A = c .before .before .before .args in
-    c .no-use .ensures ∙ ap (λ (l : List Use). getD l 0 noUse) (sym (stays-none (A .f) (A .m) (A .u) (sym (c .before .before .goes .ensures) ∙ c .before .if1 .taken)))
+returns c = let entry : tie.Start = search in let A = entry .args in
+    c .no-use .ensures ∙ ap (λ (l : List Use). getD l 0 noUse)
+    (sym (stays-none (A .f) (A .m) (A .u) (sym (c .before .before .goes .ensures) ∙ c .before .if1 .taken)))
 
 over-requires : tie.Need-over-requires
 over-requires c κs = sym (c .before .goes .ensures) ∙ c .if1 .left
 
 returns-2 : tie.Need-returns-2
-returns-2 c = let A = c .before .before .before .args in
+returns-2 c = let entry : tie.Start = search in let A = entry .args in
     ap (λ (x : ℕ). record { point = x; offset = A .u .offset; length = A .u .length }) (c .over .ensures)
     ∙ ap (λ (l : List Use). getD l 0 noUse) (sym (stays-one (A .f) (A .m) (A .u) (sym (c .before .before .goes .ensures) ∙ c .before .if1 .left)))
 

@@ -34,31 +34,12 @@ loop-holds c = (
   search (needs, length-mapped),
 )
 
-mul-rules : tie.Need-mul-rules Inv-loop μ-loop
-mul-rules c = omega (arith, c .before .before .before .loop .inv .1 .room .fits)
-
-element-set-from-rules : tie.Need-element-set-from-rules Inv-loop μ-loop
-element-set-from-rules c = omega (arith, c .before .before .before .loop .inv .1 .room .fits)
-
-add-t12 : tie.Need-add-t12 Inv-loop μ-loop
-add-t12 c = omega (arith, c .before .before .before .before .loop .inv .1 .room .fits)
-
-mul-t19 : tie.Need-mul-t19 Inv-loop μ-loop
-mul-t19 c = omega (arith, c .before .before .before .before .loop .inv .1 .room .fits)
-
-element-set-from-rules-2 : tie.Need-element-set-from-rules-2 Inv-loop μ-loop
-element-set-from-rules-2 c = omega (arith, c .before .before .before .before .loop .inv .1 .room .fits)
-
-add-rules : tie.Need-add-rules Inv-loop μ-loop
-add-rules c = omega (arith, c .before .before .before .before .loop .inv .1 .room .fits)
-
 loop-again : tie.Need-loop-again Inv-loop μ-loop
-loop-again c = let L = c .before .before .before .before .loop in
-    let A = c .before .before .before .before .before .args in
-    let s = getD (A .t3 .steps) (L .k) noStep in
-    let later = drop (L .k + 1) (stepsOf (A .t3)) in
-    let next : durations (L .at) (drop (L .k) (stepsOf (A .t3))) ≡ durations (L .at) (s ∷ []) ++ durations (L .at + 1) later =
-    ap (durations (L .at)) (held-next (A .t3 .count) (A .t3 .steps) (L .k) noStep (omega arith) (omega arith))
+loop-again c = let at-loop : tie.At-loop Inv-loop μ-loop = search in let entry : tie.Start Inv-loop μ-loop = search in let L = at-loop .loop in
+    let s = getD (entry .args .t3 .steps) (L .k) noStep in
+    let later = drop (L .k + 1) (stepsOf (entry .args .t3)) in
+    let next : durations (L .at) (drop (L .k) (stepsOf (entry .args .t3))) ≡ durations (L .at) (s ∷ []) ++ durations (L .at + 1) later =
+    ap (durations (L .at)) (held-next (entry .args .t3 .count) (entry .args .t3 .steps) (L .k) noStep (omega arith) (omega arith))
     ∙ durations-next (L .at) s later
     ∙ ap (λ (i : ℕ). durations (L .at) (s ∷ []) ++ durations i later) (sym (add-one (L .at))) in (
       omega arith,
@@ -80,6 +61,7 @@ pub add-durations-spec : {M : Type 1} → statement M
 add-durations-spec =
     tie.close
     (tie.spec
-    Inv-loop μ-loop loop-holds (λ c. omega arith) (λ c. omega arith) (λ c κs. omega arith) mul-rules element-set-from-rules
-    (λ c κs. omega arith) add-t12 mul-t19 element-set-from-rules-2 add-rules (λ c. omega arith) (λ c. omega arith) (λ c. omega arith) loop-again
+    Inv-loop μ-loop loop-holds (λ c. omega arith) (λ c. omega arith) (λ c κs. omega arith) (λ c. omega arith) (λ c. omega arith)
+    (λ c κs. omega arith) (λ c. omega arith) (λ c. omega arith) (λ c. omega arith) (λ c. omega arith) (λ c. omega arith) (λ c. omega arith)
+    (λ c. omega arith) loop-again
     returns)

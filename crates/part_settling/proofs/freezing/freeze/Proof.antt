@@ -26,42 +26,35 @@ loop-holds : tie.Need-loop-holds Inv-loop μ-loop
 loop-holds c =
     let p = c .before .pre in (
       omega arith,
-      begins _ _ _ _ (p .0 .0) (p .0 .2) (unsent-below _ _ _ 1 (omega (arith, p .0 .1))) (unsent-first _ _ _),
-      omega (arith, p .0 .1),
+      begins _ _ _ _ (p .0 .0) (p .0 .2) (unsent-below _ _ _ 1 (omega arith)) (unsent-first _ _ _),
+      omega arith,
       search (needs, length-mapped),
     )
 
 freeze-job-requires : tie.Need-freeze-job-requires Inv-loop μ-loop
 unfolding total
 freeze-job-requires c κs =
-    let L = c .before .before .before .loop in
-    let entry = c .before .before .before .before .before in
-    let q = entry .args .t3 in
-    let next = ap total (held-next (q .count) (q .jobs) (L .k) noJob (omega arith) (omega arith)) in
-    (L .inv .1 .cells, omega (arith, entry .pre .1 .0 .points, entry .pre .0 .1), omega (arith, next), L .inv .1 .closed)
+    let at-loop : tie.At-loop Inv-loop μ-loop = search in let entry : tie.Start Inv-loop μ-loop = search in let q = entry .args .t3 in
+    let next = ap total (held-next (q .count) (q .jobs) (at-loop .loop .k) noJob (omega arith) (omega arith)) in
+    (at-loop .loop .inv .1 .cells, omega arith, omega (arith, next), at-loop .loop .inv .1 .closed)
 
 add-x : tie.Need-add-x Inv-loop μ-loop
 unfolding total
-add-x c =
-    let L = c .before .before .before .before .before .before .before .loop in
-    let entry = c .before .before .before .before .before .before .before .before .before in
-    let q = entry .args .t3 in
-    let next = ap total (held-next (q .count) (q .jobs) (L .k) noJob (omega arith) (omega arith)) in
-    omega (arith, next, entry .pre .1 .0 .points, entry .pre .0 .1)
+add-x c = let at-loop : tie.At-loop Inv-loop μ-loop = search in let entry : tie.Start Inv-loop μ-loop = search in let q = entry .args .t3 in
+    let next = ap total (held-next (q .count) (q .jobs) (at-loop .loop .k) noJob (omega arith) (omega arith)) in
+    omega (arith, next)
 
 loop-again : tie.Need-loop-again Inv-loop μ-loop
 unfolding total
-loop-again c =
-    let L = c .before .before .before .before .before .before .before .loop in
-    let entry = c .before .before .before .before .before .before .before .before .before in
-    let q = entry .args .t3 in
-    let held = held-next (q .count) (q .jobs) (L .k) noJob (omega arith) (omega arith) in (
+loop-again c = let at-freeze-job : tie.After-freeze-job Inv-loop μ-loop = search in let at-loop-test : tie.In-loop Inv-loop μ-loop = search in
+    let at-loop : tie.At-loop Inv-loop μ-loop = search in let entry : tie.Start Inv-loop μ-loop = search in let q = entry .args .t3 in
+    let held = held-next (q .count) (q .jobs) (at-loop .loop .k) noJob (omega arith) (omega arith) in (
       omega arith,
-      goes-on (L .inv .1) (omega (arith, entry .pre .1 .0 .points, entry .pre .0 .1)) _ _
-          (unsent-next _ (L .k) (entry .args .count) _ _ _ (c .before .before .before .before .before .before .loop-test .taken) held) _
-          (c .before .before .before .freeze-job .ensures),
+      goes-on (at-loop .loop .inv .1) (omega arith) _ _
+          (unsent-next _ (at-loop .loop .k) (entry .args .count) _ _ _ (at-loop-test .loop-test .taken) held) _
+          (at-freeze-job .freeze-job .ensures),
       omega (arith, ap total held),
-      L .inv .3,
+      at-loop .loop .inv .3,
     )
 
 returns : tie.Need-returns Inv-loop μ-loop

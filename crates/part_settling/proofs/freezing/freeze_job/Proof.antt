@@ -10,7 +10,7 @@ unfolding freeze addedEach
 returns c = rw (c .if1 .taken)
 
 returns-2 : tie.Need-returns-2
-returns-2 c = rw (c .before .before .before .before .if1 .left) (c .before .before .freeze-points .ensures)
+returns-2 c = let at-if1 : tie.Else1 = search in rw (at-if1 .if1 .left) (c .before .before .freeze-points .ensures)
 
 pub freeze-job-spec : {M : Type 1} → statement M
 freeze-job-spec = tie.close (tie.spec returns (λ c κs. search needs) (λ c. search needs) returns-2)

@@ -20,17 +20,16 @@ loop-holds c =
     (omega arith, begins _ _ _ _ (p .0) (p .3) (range-below _ _ _ (p .2)) (range-first _ _))
 
 freeze-point-requires : tie.Need-freeze-point-requires Inv-loop μ-loop
-freeze-point-requires c κs =
+freeze-point-requires c κs = let entry : tie.Start Inv-loop μ-loop = search in
     let s = c .before .before .loop .inv .1 in
-    let p = c .before .before .before .before .pre in
-    (s .cells, p .1, omega arith, s .closed)
+    (s .cells, entry .pre .1, omega arith, s .closed)
 
 loop-again : tie.Need-loop-again Inv-loop μ-loop
-loop-again c =
-    let s = c .before .before .before .before .before .loop .inv .1 in
-    let p = c .before .before .before .before .before .before .before .pre in (
+loop-again c = let at-loop-test : tie.In-loop Inv-loop μ-loop = search in let at-loop : tie.At-loop Inv-loop μ-loop = search in
+    let entry : tie.Start Inv-loop μ-loop = search in
+    let p = entry .pre in (
       omega arith,
-      goes-on s (p .1) (_ ∷ []) _ (range-next _ _ _ (c .before .before .before .before .loop-test .taken)) _ (c .before .before .freeze-point .ensures),
+      goes-on (at-loop .loop .inv .1) (p .1) (_ ∷ []) _ (range-next _ _ _ (at-loop-test .loop-test .taken)) _ (c .before .before .freeze-point .ensures),
     )
 
 returns : tie.Need-returns Inv-loop μ-loop
