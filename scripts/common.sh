@@ -33,3 +33,12 @@ build_programs() {
         rt check "$program" >/dev/null 2>&1 || stop "$program was not proved: run 'rt check $program' to see why."
     done
 }
+
+# The seed of made-up logs: SEED where that is set, else the first eight digits of the commit, so that each commit tries other logs and the same commit
+# the same ones; 1 where there is no commit.
+commit_seed() {
+    local head
+    [ -z "${SEED-}" ] || { printf '%s\n' "$SEED"; return; }
+    head=$(git rev-parse --verify --quiet HEAD 2>/dev/null) || head=1
+    printf '%d\n' "0x${head:0:8}"
+}

@@ -3,6 +3,7 @@
 
 mod answers;
 mod floors;
+mod reach;
 mod sights;
 mod tally;
 
@@ -12,6 +13,7 @@ use crate::log::{self, Item};
 use crate::replay::{Answer, Session};
 use crate::ruling::Ruling;
 use answers::{first_difference, Answers};
+use reach::Reach;
 use sights::Sight;
 use std::collections::BTreeMap;
 use std::fmt;
@@ -30,6 +32,7 @@ pub struct Comparison {
     lists: usize,
     calls: BTreeMap<&'static str, Tally>,
     sights: BTreeMap<Sight, usize>,
+    reach: Reach,
     differences: usize,
     told: Vec<String>,
     /// How many jobs have retired from the board that is current.
@@ -54,9 +57,11 @@ pub fn compare(log: impl BufRead, answers: impl BufRead) -> io::Result<Compariso
         };
         let Some(answer) = session.answer(&item) else {
             comparison.count_by_hand(&item, &session);
+            comparison.count_reached(&item, false, &session);
             continue;
         };
         comparison.count(&item, &answer);
+        let accepted = matches!(answer, Answer::Ruling(Ruling::Accepted));
         if let Answer::List(_) = answer {
             list_line = number;
         }
@@ -71,6 +76,7 @@ pub fn compare(log: impl BufRead, answers: impl BufRead) -> io::Result<Compariso
                  its list begins in line {list_line}"
             ));
         }
+        comparison.count_reached(&item, accepted, &session);
         if let Item::Fact(offer) = &item {
             comparison.compare_forward(number, session.plant(), offer);
         }
@@ -128,6 +134,14 @@ impl Comparison {
                 Err(_) => self.see(Sight::UnsoundByHand),
             }
         }
+    }
+
+    fn count_reached(&mut self, item: &Item, accepted: bool, session: &Session) {
+        for sight in self.reach.sights(item, accepted, session) {
+            self.see(sight);
+        }
+        self.sights
+            .insert(Sight::EveryResource, self.reach.least_used());
     }
 
     fn see(&mut self, sight: Sight) {

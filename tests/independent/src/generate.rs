@@ -163,7 +163,7 @@ mod tests {
     #[test]
     fn a_log_shows_all_that_a_comparison_wants() {
         for kind in KINDS {
-            let log = log(2, 50_000, kind);
+            let log = log(2, 70_000, kind);
             let mut session: Session = Session::default();
             let mut answers = String::new();
             for line in log.lines() {

@@ -7,8 +7,8 @@
 //!
 //! - `generate SEED CALLS [KIND]` writes a call log to standard output. The kind is `read`,
 //!   `board`, or `retire` for boards with retire. The lists that go through every limit take up to
-//!   24,000 calls, and `compare` wants some 30,000 to have seen enough, of boards 60,000.
-//! - `answer LOG [fast]` writes the answers this implementation gives.
+//!   24,000 calls, and `compare` wants some 30,000 to have seen enough, of boards 70,000.
+//! - `answer LOG` writes the answers of the fast form, for `compare` to hold against the definition.
 //! - `compare LOG ANSWERS [KIND]` holds the answers that the product's replay of the log wrote
 //!   against this implementation's, and fails on a difference or if the log showed too little.
 //! - the package in `bench` times the product's calls from C beside the fast form and two others of

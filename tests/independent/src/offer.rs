@@ -59,6 +59,16 @@ impl<'a> Offer<'a> {
         &self.actions[..self.step_count]
     }
 
+    /// The action number of each step.
+    pub fn action_numbers(&self) -> impl Iterator<Item = u32> + use<'_, 'a> {
+        let mut rest = self.steps;
+        self.chain().iter().map(move |action| {
+            let number = u32::from_le_bytes(rest[0]);
+            rest = &rest[1 + action.allocations().len()..];
+            number
+        })
+    }
+
     /// Every allocation of the chain in offer order.
     pub fn allocations(&self) -> impl Iterator<Item = Allocation> + use<'_, 'a> {
         let mut rest = self.steps;

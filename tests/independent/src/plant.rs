@@ -4,7 +4,7 @@ use crate::facts::Facts;
 use crate::ruling::{Refusal, Ruling};
 
 const MARK: [u8; 4] = [0x50, 0x4C, 0x4E, 0x54];
-const MOST_ACTIONS: u32 = 128;
+pub const MOST_ACTIONS: u32 = 128;
 const MOST_ALLOCATIONS: u32 = 4;
 const MOST_RESOURCE: u32 = 15;
 /// The longest duration, offset and length, in milliseconds.
@@ -65,6 +65,10 @@ impl<'a> Plant<'a> {
             }
         }
         Ok(Plant { records, index })
+    }
+
+    pub fn action_count(&self) -> usize {
+        self.index.len()
     }
 
     pub fn action(&self, number: u32) -> Option<Action<'a>> {

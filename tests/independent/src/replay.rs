@@ -65,6 +65,11 @@ impl<B: BoardCalls> Session<B> {
     pub fn board(&self) -> &B {
         &self.board
     }
+
+    /// The board reached, in its words.
+    pub fn reached(&self) -> Board {
+        self.board.board()
+    }
 }
 
 impl fmt::Display for Answer<'_> {

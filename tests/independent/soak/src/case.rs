@@ -5,25 +5,76 @@ use independent::generate::rng::Rng;
 use independent::log::Item;
 use std::fmt;
 
+/// Numbers of words that no board has: few, where the head, the lines or the table end, one too few
+/// and too many, two boards, and a board's number of bytes.
+pub const OTHER_LENGTHS: [usize; 11] = [
+    0,
+    1,
+    4,
+    64,
+    1_603,
+    1_604,
+    1_605,
+    BOARD_WORDS - 1,
+    BOARD_WORDS + 1,
+    2 * BOARD_WORDS,
+    4 * BOARD_WORDS,
+];
+
+/// Lengths that a log has no line for.
+const LONG: [usize; 5] = [16_385, 32_768, 65_535, 65_536, 300_001];
+
 /// How the ranges of one call are lent, where the C interface leaves a choice.
 #[derive(Clone, Debug, PartialEq)]
 pub struct Lending {
     /// The call is made first on a board of so many words, which must be refused.
     pub other_length: Option<usize>,
+    /// The call is made first with more bytes, which must be refused.
+    pub longer: Option<Longer>,
     /// The words there is room for in `cause`.
     pub cause_room: usize,
+    /// How many rows a report's list has beyond those of the log, which knows at most 64.
+    pub more_rows: u32,
     /// Whether empty ranges are NULL.
     pub null: bool,
+    /// Whether plant and offer lie in one block, and how.
+    pub beside: Option<Beside>,
+}
+
+/// What is made longer, and to how many bytes.
+#[derive(Clone, Debug, PartialEq)]
+pub enum Longer {
+    Plant(usize),
+    Offer(usize),
+}
+
+/// Plant and offer in one block.
+#[derive(Clone, Debug, PartialEq)]
+pub struct Beside {
+    /// Bytes before the first and behind the last of the two.
+    pub before: usize,
+    pub between: usize,
+    pub offer_first: bool,
 }
 
 impl Lending {
     /// Most often as a caller would, and each of the other ways now and then.
     pub fn any(rng: &mut Rng) -> Self {
-        let other = rng.pick(&[0, BOARD_WORDS - 1, BOARD_WORDS + 1]);
+        let other = rng.pick(&OTHER_LENGTHS);
+        let long = rng.pick(&LONG);
+        let longer = rng.pick(&[Longer::Plant, Longer::Offer])(long);
+        let beside = Beside {
+            before: rng.below(20),
+            between: rng.pick(&[0, 0, 1, 2, 3, 5]),
+            offer_first: rng.one_in(2),
+        };
         Lending {
-            other_length: rng.one_in(16).then_some(other),
+            other_length: rng.one_in(8).then_some(other),
+            longer: rng.one_in(64).then_some(longer),
             cause_room: rng.pick(&[1, 1, 1, 1, 0, 2]),
+            more_rows: rng.pick(&[0, 0, 0, 0, 0, 1, 64, 1_000]),
             null: rng.one_in(2),
+            beside: rng.one_in(2).then_some(beside),
         }
     }
 }
@@ -33,6 +84,23 @@ impl fmt::Display for Lending {
     fn fmt(&self, f: &mut fmt::Formatter) -> fmt::Result {
         if let Some(length) = self.other_length {
             write!(f, "first on a board of {length} words; ")?;
+        }
+        match self.longer {
+            Some(Longer::Plant(length)) => write!(f, "first with a plant of {length} bytes; ")?,
+            Some(Longer::Offer(length)) => write!(f, "first with an offer of {length} bytes; ")?,
+            None => {}
+        }
+        if self.more_rows > 0 {
+            write!(f, "{} rows more; ", self.more_rows)?;
+        }
+        if let Some(Beside {
+            before,
+            between,
+            offer_first,
+        }) = self.beside
+        {
+            let first = if offer_first { "offer" } else { "plant" };
+            write!(f, "{first} first, both in one block, {before} bytes before it and {between} between; ")?;
         }
         let empty = if self.null { "NULL" } else { "not NULL" };
         let cause = self.cause_room;

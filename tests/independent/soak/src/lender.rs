@@ -1,10 +1,11 @@
 //! Lends the product the ranges of a call and compares what it makes of them.
 
+use crate::bytes::Bytes;
 use crate::case::{Lending, Step};
 use crate::product::{Lent, Product, ROW_WORDS};
 use crate::range::{Range, PATTERN};
 use crate::second::{write_rows, Answer};
-use crate::tally::Tally;
+use crate::tally::{Tally, Way};
 use independent::board::Row;
 use independent::log::Item;
 use std::time::Instant;
@@ -53,7 +54,7 @@ pub struct Lender<'a, P> {
     pub tally: &'a mut Tally,
     /// How many guard words stand on each side of a lent list.
     pub guard: usize,
-    pub plant: Range<u8>,
+    pub plant: Vec<u8>,
 }
 
 impl<P: Product> Lender<'_, P> {
@@ -65,14 +66,14 @@ impl<P: Product> Lender<'_, P> {
         wanted: &Wanted,
     ) -> Result<(), String> {
         let Step { item, lending } = step;
-        let mut offer = Range::bare(offer_of(item));
+        let bytes = self.bytes(item, lending);
         let mut cause = wanted.cause_range(lending, self.guard);
         let mut rows = wanted.rows_range(item, self.guard);
         let null = lending.null;
         let lent = Lent {
             board: board.lend(null),
-            plant: self.plant.lend(null).map(|bytes| &*bytes),
-            offer: offer.lend(null).map(|bytes| &*bytes),
+            plant: bytes.plant(null),
+            offer: bytes.offer(null),
             cause: cause.lend(null),
             rows: rows.lend(null),
         };
@@ -87,9 +88,21 @@ impl<P: Product> Lender<'_, P> {
             .difference("the board")
             .or_else(|| cause.difference("the cause"))
             .or_else(|| rows.difference("the rows"))
-            .or_else(|| self.plant.difference("the plant"))
-            .or_else(|| offer.difference("the offer"));
+            .or_else(|| bytes.difference());
         difference.map_or(Ok(()), |told| Err(format!("both {number}, but {told}")))
+    }
+
+    /// Plant and offer, in one block where that is asked. Where there are no guards each has its own:
+    /// a tool that watches the heap knows blocks alone.
+    fn bytes(&mut self, item: &Item, lending: &Lending) -> Bytes {
+        let offer = offer_of(item);
+        let Some(beside) = lending.beside.as_ref().filter(|_| self.guard > 0) else {
+            return Bytes::apart(&self.plant, offer);
+        };
+        if !self.plant.is_empty() && !offer.is_empty() {
+            self.tally.see(Way::Beside);
+        }
+        Bytes::beside(&self.plant, offer, beside)
     }
 }
 

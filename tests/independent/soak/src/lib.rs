@@ -8,8 +8,10 @@
 
 #![forbid(unsafe_code)]
 
+pub mod bytes;
 pub mod case;
 pub mod lender;
+pub mod longer;
 pub mod product;
 pub mod range;
 pub mod second;

@@ -1,6 +1,6 @@
 //! `soak SECONDS [SEED [bare]]` runs lists through the C interface and the second implementation for
 //! so long and says what was seen. It fails on a difference, or if a run of some length left a number
-//! unseen. `bare` leaves out the guard words around lent lists, for a tool that watches the heap.
+//! unseen or a way to lend untried. `bare` leaves out the guard words around lent lists, for a tool that watches the heap.
 
 mod c_interface;
 
@@ -17,7 +17,7 @@ const MOST_SECONDS: u64 = 999_999;
 /// How many guard words stand on each side of a lent list.
 const GUARD_WORDS: usize = 8;
 
-/// A run of so many seconds must see every number.
+/// A run of so many seconds must see every number and try every way to lend.
 const SECONDS_TO_SEE_ALL: u64 = 10;
 
 fn main() -> ExitCode {
@@ -35,8 +35,9 @@ fn main() -> ExitCode {
     let whole = start.elapsed().as_secs_f64();
     report(&tally, whole);
     let unseen = tally.unseen();
-    if seconds >= SECONDS_TO_SEE_ALL && !unseen.is_empty() {
-        println!("FAILED: these numbers were never the answer: {unseen:?}");
+    // A run without guards may be one under a tool that makes it slow, and has no blocks for two.
+    if guard > 0 && seconds >= SECONDS_TO_SEE_ALL && !unseen.is_empty() {
+        println!("FAILED: never seen: {}", unseen.join(", "));
         return ExitCode::FAILURE;
     }
     println!("no difference");

@@ -14,15 +14,6 @@ pub struct Range<T> {
 }
 
 impl<T: Copy + Display + PartialEq> Range<T> {
-    /// A range that no guards surround.
-    pub fn bare(content: &[T]) -> Self {
-        Range {
-            lent: content.to_vec(),
-            wanted: content.to_vec(),
-            guard: 0,
-        }
-    }
-
     /// The range as the product gets it; an empty one is NULL where it may be.
     pub fn lend(&mut self, may_be_null: bool) -> Option<&mut [T]> {
         let end = self.lent.len() - self.guard;

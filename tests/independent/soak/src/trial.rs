@@ -1,14 +1,16 @@
 //! One list on both sides, step by step, up to the first difference.
 
-use crate::case::{Case, Step};
+use crate::case::{Case, Longer, Step};
 use crate::lender::{Lender, Wanted};
+use crate::longer::{longer_offer, longer_plant};
 use crate::product::{has_call, Product};
 use crate::range::Range;
 use crate::second::{answer, answer_by_definition, Answer};
-use crate::tally::Tally;
-use independent::board::{BoardCalls, Definition, BOARD_WORDS};
+use crate::tally::{Tally, Way};
+use independent::board::{BoardCalls, Definition, BOARD_WORDS, MOST_POINTS};
 use independent::log::Item;
 use independent::replay::Session;
+use std::borrow::Cow;
 
 /// What first differs.
 #[derive(Debug)]
@@ -34,7 +36,7 @@ impl<'a, P: Product> Trial<'a, P> {
             product,
             tally,
             guard,
-            plant: Range::bare(&[]),
+            plant: Vec::new(),
         };
         Trial {
             lender,
@@ -58,11 +60,12 @@ impl<'a, P: Product> Trial<'a, P> {
 
     fn step(&mut self, step: &Step) -> Result<(), String> {
         match &step.item {
-            Item::Plant(file) => self.lender.plant = Range::bare(file),
+            Item::Plant(file) => self.lender.plant.clone_from(file),
             Item::Board(board) => self.board.set(&board.words()[..]),
             item if has_call(item) => {
                 self.call_on_another_length(step)?;
-                return self.call(step);
+                self.call_with_more_bytes(step)?;
+                return self.call(&with_more_rows(step));
             }
             _ => return Ok(()),
         }
@@ -74,7 +77,8 @@ impl<'a, P: Product> Trial<'a, P> {
 
     fn call(&mut self, step: &Step) -> Result<(), String> {
         let item = &step.item;
-        let answer = answer(item, self.lender.plant.wanted(), self.board.wanted());
+        self.count_room(item);
+        let answer = answer(item, &self.lender.plant, self.board.wanted());
         self.compare_with_definition(item, &answer)?;
         let wanted = Wanted::of(item, answer);
         self.lender.compare(step, &mut self.board, &wanted)?;
@@ -91,12 +95,61 @@ impl<'a, P: Product> Trial<'a, P> {
         let mut words = self.board.wanted().to_vec();
         words.resize(length, 0);
         let mut board = Range::guarded(&words, self.lender.guard);
-        let answer = answer(&step.item, self.lender.plant.wanted(), board.wanted());
+        let answer = answer(&step.item, &self.lender.plant, board.wanted());
         let wanted = Wanted::of(&step.item, answer);
         let compared = self.lender.compare(step, &mut board, &wanted);
         compared.map_err(|told| format!("on a board of {length} words: {told}"))?;
-        self.lender.tally.other_lengths += 1;
+        self.lender.tally.see(Way::OtherLength(length));
         Ok(())
+    }
+
+    /// Of plan and fact check alone, which take bytes. No such plant or offer is a good one, so the
+    /// board is the same after it.
+    fn call_with_more_bytes(&mut self, step: &Step) -> Result<(), String> {
+        let (Item::Plan(offer) | Item::Fact(offer), Some(longer)) =
+            (&step.item, &step.lending.longer)
+        else {
+            return Ok(());
+        };
+        let plant = self.lender.plant.clone();
+        let (way, item) = match longer {
+            Longer::Plant(length) => {
+                self.lender.plant = longer_plant(&plant, *length);
+                (Way::LongPlant, step.item.clone())
+            }
+            Longer::Offer(length) => {
+                let offer = longer_offer(offer, *length);
+                let is_plan = matches!(step.item, Item::Plan(_));
+                let call = if is_plan { Item::Plan } else { Item::Fact };
+                (Way::LongOffer, call(offer))
+            }
+        };
+        let lending = step.lending.clone();
+        let answer = answer(&item, &self.lender.plant, self.board.wanted());
+        let wanted = Wanted::of(&item, answer);
+        let step = Step { item, lending };
+        let compared = self.lender.compare(&step, &mut self.board, &wanted);
+        self.lender.plant = plant;
+        compared.map_err(|told| format!("with more bytes: {told}"))?;
+        self.lender.tally.see(way);
+        Ok(())
+    }
+
+    /// How the room of a report's list compares with the rows, where there are any.
+    fn count_room(&mut self, item: &Item) {
+        let Item::Report(room) = item else { return };
+        let whole = Item::Report(MOST_POINTS as u32);
+        let rows = answer(&whole, &self.lender.plant, self.board.wanted());
+        let rows = rows.map_or(0, |rows| rows.len() as u32);
+        let ways = [
+            (Way::MoreRoom, *room > rows),
+            (Way::JustRoom, *room == rows),
+            (Way::OneShort, room + 1 == rows),
+            (Way::NoRoom, *room == 0),
+        ];
+        for (way, _) in ways.into_iter().filter(|(_, seen)| rows > 0 && *seen) {
+            self.lender.tally.see(way);
+        }
     }
 
     /// Holds the fast form against the rule book, in a list in which that is asked.
@@ -119,4 +172,13 @@ impl<'a, P: Product> Trial<'a, P> {
         }
         Ok(())
     }
+}
+
+/// The step with the rows that its lending adds to a report's list.
+fn with_more_rows(step: &Step) -> Cow<'_, Step> {
+    let mut step = Cow::Borrowed(step);
+    if let Item::Report(room) = step.item {
+        step.to_mut().item = Item::Report(room + step.lending.more_rows);
+    }
+    step
 }

@@ -1,7 +1,7 @@
-//! `answer LOG [fast]` writes the answers this implementation gives to a call log: by the
-//! definition, or by the fast form of boards.
+//! `answer LOG` writes the answers of this implementation's fast form to a call log. Soak takes that
+//! form for what is right, so it is held against the definition by `compare` too.
 
-use independent::board::{BoardCalls, Definition, Fast};
+use independent::board::Fast;
 use independent::log;
 use independent::replay::Session;
 use std::fs::File;
@@ -10,16 +10,11 @@ use std::process::ExitCode;
 
 fn main() -> ExitCode {
     let arguments: Vec<String> = std::env::args().skip(1).collect();
-    let words: Vec<&str> = arguments.iter().map(String::as_str).collect();
-    let answered = match words[..] {
-        [log] => answer::<Definition>(log),
-        [log, "fast"] => answer::<Fast>(log),
-        _ => {
-            eprintln!("usage: answer LOG [fast]");
-            return ExitCode::FAILURE;
-        }
+    let [log] = &arguments[..] else {
+        eprintln!("usage: answer LOG");
+        return ExitCode::FAILURE;
     };
-    match answered {
+    match answer(log) {
         Ok(()) => ExitCode::SUCCESS,
         Err(error) => {
             eprintln!("answer: {error}");
@@ -28,21 +23,13 @@ fn main() -> ExitCode {
     }
 }
 
-fn answer<B: BoardCalls>(path: &str) -> io::Result<()> {
+fn answer(path: &str) -> io::Result<()> {
     let mut out = BufWriter::new(io::stdout().lock());
-    let mut session = Session::<B>::default();
-    for (number, line) in (1..).zip(BufReader::new(File::open(path)?).lines()) {
-        match log::parse(&line?) {
-            Ok(None) => {}
-            Ok(Some(item)) => {
-                if let Some(answer) = session.answer(&item) {
-                    writeln!(out, "{answer}")?;
-                }
-            }
-            Err(why) => {
-                writeln!(out, "! {number} {why}")?;
-                break;
-            }
+    let mut session = Session::<Fast>::default();
+    for line in BufReader::new(File::open(path)?).lines() {
+        let item = log::parse(&line?).map_err(io::Error::other)?;
+        if let Some(answer) = item.as_ref().and_then(|item| session.answer(item)) {
+            writeln!(out, "{answer}")?;
         }
     }
     out.flush()

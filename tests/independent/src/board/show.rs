@@ -28,7 +28,9 @@ impl fmt::Display for State<'_> {
         let jobs = self.0.jobs_in_use();
         write!(f, "state {} {}", self.0.clock, jobs.len())?;
         for job in jobs {
-            write!(f, "\nj {} {} {}", job.points, job.batch, job.sent)?;
+            // A mark that is neither 1 nor 0 shows as 0.
+            let sent = u32::from(job.sent == 1);
+            write!(f, "\nj {} {} {sent}", job.points, job.batch)?;
         }
         for (resource, line) in self.0.lines.iter().enumerate() {
             let uses = line.in_use();

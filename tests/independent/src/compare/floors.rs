@@ -68,7 +68,7 @@ const READ_SIGHTS: [(Sight, usize); 5] = [
 ];
 
 /// The last one is for logs that retire.
-const BOARD_SIGHTS: [(Sight, usize); 10] = [
+const BOARD_SIGHTS: [(Sight, usize); 26] = [
     (Sight::Table, 1_000),
     (Sight::State, 1_000),
     (Sight::AllPoints, 50),
@@ -78,6 +78,22 @@ const BOARD_SIGHTS: [(Sight, usize); 10] = [
     (Sight::UnsoundByHand, 100),
     (Sight::AllRows, 20),
     (Sight::NoRows, 50),
+    (Sight::LargestPlant, 100),
+    (Sight::LateAction, 100),
+    (Sight::EveryResource, 100),
+    (Sight::FourResources, 100),
+    (Sight::HighBits, 100),
+    (Sight::SeveralFlaws, 50),
+    (Sight::RandomWords, 20),
+    (Sight::CellOff, 100),
+    (Sight::CellOffOfMany, 500),
+    (Sight::UnsoundTable, 100),
+    (Sight::UnsoundState, 100),
+    (Sight::OverfullState, 20),
+    (Sight::MoreRoom, 100),
+    (Sight::JustRoom, 100),
+    (Sight::OneShort, 100),
+    (Sight::NoRoom, 100),
     (Sight::HundredsRetired, 4),
 ];
 

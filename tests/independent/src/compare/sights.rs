@@ -24,6 +24,33 @@ pub enum Sight {
     AllRows,
     /// A report of no rows.
     NoRows,
+    /// An accepted plan of a plant with 128 actions.
+    LargestPlant,
+    /// An accepted plan with an action that only a large plant has.
+    LateAction,
+    /// Accepted plans that use a resource, of the one that the fewest use.
+    EveryResource,
+    /// An accepted plan that uses more than three resources.
+    FourResources,
+    /// An accepted plan whose batch differs from that of another job in high bits alone.
+    HighBits,
+    /// A board made by hand that breaks several clauses of soundness.
+    SeveralFlaws,
+    /// A board made by hand of words that were never a board.
+    RandomWords,
+    /// A sound board with one cell one more or less, of few points and of many.
+    CellOff,
+    CellOffOfMany,
+    UnsoundTable,
+    UnsoundState,
+    /// A state shown of a board with a count larger than what there is room for.
+    OverfullState,
+    /// A report into a list with more room than rows, with just as much, with room for one less,
+    /// and with none; of a board that has rows.
+    MoreRoom,
+    JustRoom,
+    OneShort,
+    NoRoom,
     /// A board from which 200 jobs have retired.
     HundredsRetired,
 }
@@ -45,6 +72,22 @@ impl Sight {
             Sight::UnsoundByHand => "unsound boards made by hand",
             Sight::AllRows => "reports of 64 rows",
             Sight::NoRows => "reports of no rows",
+            Sight::LargestPlant => "accepted plans of a plant with 128 actions",
+            Sight::LateAction => "accepted plans with an action from 64 on",
+            Sight::EveryResource => "accepted plans of the resource that the fewest use",
+            Sight::FourResources => "accepted plans that use more than three resources",
+            Sight::HighBits => "batches that differ in high bits alone",
+            Sight::SeveralFlaws => "boards made by hand with several flaws",
+            Sight::RandomWords => "boards made by hand of random words",
+            Sight::CellOff => "sound boards of up to 16 points with one cell off by one",
+            Sight::CellOffOfMany => "sound boards of more points with one cell off by one",
+            Sight::UnsoundTable => "tables of unsound boards",
+            Sight::UnsoundState => "states of unsound boards",
+            Sight::OverfullState => "states of boards with a count past its room",
+            Sight::MoreRoom => "reports with more room than rows",
+            Sight::JustRoom => "reports with just as much room as rows",
+            Sight::OneShort => "reports with room for one row less",
+            Sight::NoRoom => "reports of rows with no room",
             Sight::HundredsRetired => "boards from which 200 jobs retired",
         }
     }

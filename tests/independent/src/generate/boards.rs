@@ -10,6 +10,7 @@ mod press;
 mod proving;
 mod random;
 mod script;
+mod wide;
 
 use super::rng::Rng;
 use super::{offers, List, NamedItems};
@@ -20,7 +21,7 @@ use script::Script;
 type Scenario = fn(&mut Rng, &mut Script);
 
 /// The lists that come first in every log.
-const SYSTEMATIC: [(&str, Scenario); 15] = [
+const SYSTEMATIC: [(&str, Scenario); 19] = [
     ("proving", proving::proving),
     ("freshes", limits::freshes),
     ("rooms", limits::rooms),
@@ -29,6 +30,7 @@ const SYSTEMATIC: [(&str, Scenario); 15] = [
     ("extremes", limits::extremes),
     ("clocks", limits::clocks),
     ("orders", orders::orders),
+    ("wide", wide::wide),
     ("formats", |rng, script| {
         replan(rng, script, offers::formats)
     }),
@@ -38,8 +40,11 @@ const SYSTEMATIC: [(&str, Scenario); 15] = [
     ("chains", |rng, script| replan(rng, script, offers::chains)),
     ("fields", hand::fields),
     ("invented", hand::invented),
+    ("flawed", hand::flawed),
+    ("noise", hand::noise),
     ("near", near::near),
     ("cells", near::cells),
+    ("large-cells", near::large_cells),
 ];
 
 /// The lists that come next in a log that retires.

@@ -1,11 +1,11 @@
-//! Boards made by hand: boards that calls reached, boards that no calls reach, and both with one
-//! word changed.
+//! Boards made by hand: boards that calls reached, boards that no calls reach, both with a word or
+//! several changed, and words that were never a board.
 
 use super::fields::{changed, field, CHANGES, KINDS};
 use super::press::Press;
 use super::random::{any_call, begin};
 use super::script::Script;
-use crate::board::Board;
+use crate::board::{Board, BOARD_WORDS, HEADER_WORDS, SIDE};
 use crate::generate::invent::invent;
 use crate::generate::rng::Rng;
 
@@ -75,6 +75,41 @@ pub fn invented(rng: &mut Rng, script: &mut Script) {
     }
 }
 
+/// Boards with several words changed: what is wrong first must not hide that the rest is looked at
+/// with care.
+pub fn flawed(rng: &mut Rng, script: &mut Script) {
+    let press = begin(rng, script);
+    for _ in 0..80 {
+        let board = invent(rng, press.unit);
+        let mut words = board.words();
+        for _ in 0..2 + rng.below(6) {
+            let kind = rng.below(KINDS);
+            if let Some(at) = field(rng, &board, kind) {
+                let change = rng.below(CHANGES);
+                words[at] = changed(rng, &board, words[at], change);
+            }
+        }
+        try_calls(rng, script, &press, &Board::from_words(&words));
+    }
+}
+
+/// Any words at all, in all places or in those that come after the counts.
+pub fn noise(rng: &mut Rng, script: &mut Script) {
+    let press = begin(rng, script);
+    for round in 0..40 {
+        let mut words = invent(rng, press.unit).words();
+        let from = rng.pick(&[0, 0, HEADER_WORDS, BOARD_WORDS - SIDE * SIDE]);
+        let sort = round % 4;
+        words[from..].fill_with(|| match sort {
+            0 | 1 => rng.word(),
+            2 => rng.edge(),
+            _ => rng.below(70) as u32,
+        });
+        try_calls(rng, script, &press, &Board::from_words(&words));
+        script.show();
+    }
+}
+
 /// Makes one change and tries the calls on what comes of it.
 fn try_change(
     rng: &mut Rng,
@@ -95,7 +130,7 @@ fn try_change(
 /// The calls on a board made by hand.
 pub fn try_calls(rng: &mut Rng, script: &mut Script, press: &Press, board: &Board) {
     script.board(board);
-    if script.book().is_some() && rng.one_in(3) {
+    if rng.one_in(3) {
         script.show();
     }
     let edge = rng.edge();

@@ -42,9 +42,7 @@ pub fn freshes(_: &mut Rng, script: &mut Script) {
 }
 
 fn every_call(script: &mut Script) {
-    if script.book().is_some() {
-        script.show();
-    }
+    script.show();
     script.plan(&proving_offer());
     script.plan_bytes(vec![0; 23]);
     script.send(0);

@@ -3,7 +3,7 @@
 use super::hand::try_calls;
 use super::random::begin;
 use super::script::Script;
-use crate::board::{Board, Use, MOST_HORIZON, MOST_LEAD, MOST_USES, RESOURCES};
+use crate::board::{Board, Use, MOST_HORIZON, MOST_LEAD, MOST_USES, RESOURCES, SIDE};
 use crate::generate::invent::{invent, invent_with, Flaw};
 use crate::generate::rng::Rng;
 use crate::plant::MOST_TIME;
@@ -92,21 +92,60 @@ fn near_use(rng: &mut Rng, board: &mut Board, number: usize) {
 pub fn cells(rng: &mut Rng, script: &mut Script) {
     let press = begin(rng, script);
     for live in [1, 3, 5, 7] {
-        let mut base = invent(rng, press.unit);
-        while base.live() != live {
-            base = invent(rng, press.unit);
-        }
+        let base = invent_of(rng, press.unit, live);
+        script.board(&base);
         for from in 0..live {
             for to in 0..live {
-                for change in [1, u32::MAX] {
-                    let mut board = base.clone();
-                    let cell = &mut board.cells[from][to];
-                    *cell = cell.wrapping_add(change);
-                    script.board(&board);
-                    script.send(u32::MAX);
-                    script.clock(board.clock);
-                }
+                up_and_down(script, &base, from, to);
             }
         }
+    }
+}
+
+/// The same of larger tables, of which more than 16 points may ask for other code: every cell of the
+/// smallest of these, of the others some, the first cells past the live ones among them.
+pub fn large_cells(rng: &mut Rng, script: &mut Script) {
+    let press = begin(rng, script);
+    for live in [17, 18] {
+        let base = invent_of(rng, press.unit, live);
+        script.board(&base);
+        for cell in 0..(live + 1) * (live + 1) {
+            up_and_down(script, &base, cell / (live + 1), cell % (live + 1));
+        }
+    }
+    for (live, samples) in [(16, 30), (19, 30), (33, 30), (64, 30), (65, 60)] {
+        let base = invent_of(rng, press.unit, live);
+        script.board(&base);
+        let end = SIDE.min(live + 1);
+        for from in [0, live - 1] {
+            for to in [0, live - 1, end - 1] {
+                up_and_down(script, &base, from, to);
+            }
+        }
+        for _ in 0..samples {
+            up_and_down(script, &base, rng.below(end), rng.below(end));
+        }
+    }
+}
+
+/// A sound board with so many live points, the origin among them.
+fn invent_of(rng: &mut Rng, unit: u32, live: usize) -> Board {
+    loop {
+        let board = invent(rng, unit);
+        if board.live() == live {
+            return board;
+        }
+    }
+}
+
+/// One cell one up, then one down, with a call that only looks and one that works on the table.
+fn up_and_down(script: &mut Script, base: &Board, from: usize, to: usize) {
+    for change in [1, u32::MAX] {
+        let mut board = base.clone();
+        let cell = &mut board.cells[from][to];
+        *cell = cell.wrapping_add(change);
+        script.board(&board);
+        script.send(u32::MAX);
+        script.clock(board.clock);
     }
 }

@@ -1,5 +1,5 @@
-//! Good plants for boards: few resources, so that lines fill, and times of one size, so that the
-//! horizon comes near.
+//! Good plants for boards: most with few resources, so that lines fill, some with all of them, and
+//! with times of one size, so that the horizon comes near.
 
 use crate::board::definition::RuleBook;
 use crate::board::{MOST_HORIZON, MOST_LEAD, MOST_USES, RESOURCES};
@@ -15,17 +15,24 @@ pub struct Press {
     pub unit: u32,
     /// The most steps of its offers.
     steps: usize,
+    /// What its offers have as their batch.
+    batches: [u32; 5],
 }
 
 impl Press {
     pub fn random(rng: &mut Rng) -> Self {
         let facts = rng.pick(&[0, 0, 0, 1, 0x8000_0003, u32::MAX]);
-        let count = rng.pick(&[1, 2, 3, 4, 6, 9]);
+        let small = rng.pick(&[1, 2, 3, 4, 6, 9]);
+        // The large ones make long lines, so they are few.
+        let count = match rng.below(30) {
+            0 => 128,
+            1 => 127,
+            2 => 40,
+            _ => small,
+        };
         let mut world = World::grow(rng, count, facts);
         let unit = rng.pick(&[1, 2, 10, 10, 300, 40_000, 250_000]);
-        let resources: Vec<u32> = (0..1 + rng.below(3))
-            .map(|_| rng.pick(&[0, 1, 7, 15]))
-            .collect();
+        let resources = some_resources(rng);
         let tidy = rng.below(4) > 0;
         let few = rng.one_in(3);
         for action in &mut world.actions {
@@ -34,7 +41,12 @@ impl Press {
         // Without facts any part of a chain is a chain.
         let steps = rng.pick(&[1, 2, 3, 5, 8]);
         let steps = if facts == 0 { steps } else { 8 };
-        Press { world, unit, steps }
+        Press {
+            world,
+            unit,
+            steps,
+            batches: some_batches(rng),
+        }
     }
 
     pub fn file(&self) -> Vec<u8> {
@@ -64,7 +76,7 @@ impl Press {
     pub fn offer(&self, rng: &mut Rng, book: Option<&RuleBook>) -> OfferDraft {
         let mut offer = self.world.passing_offer(rng);
         offer.steps.truncate(self.steps);
-        offer.batch = rng.pick(&[0, 0, 0, 1, 1, 2, u32::MAX]);
+        offer.batch = rng.pick(&self.batches);
         let mood = rng.below(20);
         let mut counts = counts(book);
         let total: usize = offer.steps.iter().map(|step| step.places.len()).sum();
@@ -88,6 +100,26 @@ impl Press {
         }
         offer
     }
+}
+
+/// Few resources, or all of them.
+fn some_resources(rng: &mut Rng) -> Vec<u32> {
+    if rng.one_in(4) {
+        return (0..RESOURCES as u32).collect();
+    }
+    let few = 1 + rng.below(3);
+    (0..few).map(|_| rng.below(RESOURCES) as u32).collect()
+}
+
+/// Batches, two of them one bit apart: that bit, alone, is a batch too and not none.
+fn some_batches(rng: &mut Rng) -> [u32; 5] {
+    let low = rng.pick(&[1, 2, 0xFF]);
+    let high = 1 << (8 + rng.below(24));
+    rng.pick(&[
+        [0, 0, 0, low, low],
+        [0, 0, low, low, u32::MAX],
+        [0, low, low, low | high, high],
+    ])
 }
 
 /// How many uses each line has.

@@ -1,7 +1,7 @@
 //! A list of board calls in the making, with the board that its calls lead to.
 
 use crate::board::definition::RuleBook;
-use crate::board::{Board, BoardCalls};
+use crate::board::Board;
 use crate::generate::draft::OfferDraft;
 use crate::log::{Item, MOST_ROWS};
 use crate::replay::{Answer, Session};
@@ -95,12 +95,8 @@ impl Script {
         self.add(Item::Board(board.clone()));
     }
 
-    /// Shows the board. A call log doesn't say what is shown of one that isn't sound, so a list
-    /// on such a board gets a sound one first.
+    /// Shows the board, sound or not.
     pub fn show(&mut self) {
-        if self.book().is_none() {
-            self.fresh(1_000, 5);
-        }
         self.items.extend([Item::Table, Item::State]);
     }
 
@@ -111,7 +107,7 @@ impl Script {
 
     /// The board reached.
     pub fn reached(&self) -> Board {
-        self.session.board().board()
+        self.session.reached()
     }
 
     pub fn current_plant(&self) -> Vec<u8> {
