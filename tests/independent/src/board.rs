@@ -14,7 +14,6 @@ use std::array;
 pub use definition::Definition;
 pub use fast::Fast;
 pub use show::{State, Table};
-pub use sound::flaws;
 
 pub const RESOURCES: usize = 16;
 pub const MOST_JOBS: usize = 16;

@@ -144,7 +144,7 @@ mod tests {
         for kind in KINDS {
             let mut calls = 0;
             let mut retires = false;
-            for item in log(1, 30_000, kind)
+            for item in log(1, 40_000, kind)
                 .lines()
                 .map(|line| parse(line).unwrap())
             {
@@ -154,8 +154,8 @@ mod tests {
                     assert!(file.len() <= MOST_PLANT_BYTES);
                 }
             }
-            let most = if kind == Kind::Read { 30_000 } else { 30_500 };
-            assert!((30_000..=most).contains(&calls), "{calls}");
+            let most = if kind == Kind::Read { 40_000 } else { 40_500 };
+            assert!((40_000..=most).contains(&calls), "{calls}");
             assert_eq!(retires, kind == Kind::Retire);
         }
     }

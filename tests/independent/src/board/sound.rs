@@ -7,29 +7,19 @@ use super::{
 };
 use crate::plant::MOST_TIME;
 
-/// The clauses, in an order in which each can be looked at wherever those before it hold.
-const CLAUSES: [fn(&Board) -> bool; 12] = [
-    counts_are_within_limits,
-    points_have_room,
-    numbers_are_within_limits,
-    gaps_are_within_limits,
-    clock_is_within_the_horizon,
-    lines_name_live_points,
-    sent_jobs_come_first,
-    sent_jobs_are_settled,
-    diagonal_is_0,
-    other_cells_are_0,
-    no_way_is_shorter,
-    points_lie_within_the_horizon,
-];
-
 pub fn is_sound(board: &Board) -> bool {
-    CLAUSES.iter().all(|holds| holds(board))
-}
-
-/// How many clauses don't hold.
-pub fn flaws(board: &Board) -> usize {
-    CLAUSES.iter().filter(|holds| !holds(board)).count()
+    counts_are_within_limits(board)
+        && board.job_points() <= MOST_POINTS as u64
+        && numbers_are_within_limits(board)
+        && gaps_are_within_limits(board)
+        && board.clock <= board.horizon
+        && lines_name_live_points(board)
+        && sent_jobs_come_first(board)
+        && sent_jobs_are_settled(board)
+        && diagonal_is_0(board)
+        && other_cells_are_0(board)
+        && no_way_is_shorter(board)
+        && points_lie_within_the_horizon(board)
 }
 
 fn counts_are_within_limits(board: &Board) -> bool {
@@ -38,10 +28,6 @@ fn counts_are_within_limits(board: &Board) -> bool {
         .iter()
         .all(|line| line.count <= MOST_USES as u32);
     board.job_count <= MOST_JOBS as u32 && lines_are
-}
-
-fn points_have_room(board: &Board) -> bool {
-    board.job_points() <= MOST_POINTS as u64
 }
 
 fn numbers_are_within_limits(board: &Board) -> bool {
@@ -63,10 +49,6 @@ fn gaps_are_within_limits(board: &Board) -> bool {
         .all(|row| row[..live].iter().all(|&cell| cell <= 2 * ZERO_GAP))
 }
 
-fn clock_is_within_the_horizon(board: &Board) -> bool {
-    board.clock <= board.horizon
-}
-
 /// The origin isn't named.
 fn lines_name_live_points(board: &Board) -> bool {
     let live = board.live();
@@ -82,12 +64,12 @@ fn sent_jobs_come_first(board: &Board) -> bool {
     sent.is_sorted_by(|earlier, later| earlier >= later)
 }
 
-/// Earliest equals latest at each point of a sent job that has room in the table.
+/// Earliest equals latest at each point of a sent job.
 fn sent_jobs_are_settled(board: &Board) -> bool {
     let jobs = board.jobs_in_use().iter().zip(board.points_of_jobs());
     let mut sent_points = jobs
         .filter(|(job, _)| job.sent == 1)
-        .flat_map(|(_, points)| points.start..points.end.min(SIDE));
+        .flat_map(|(_, points)| points);
     sent_points.all(|point| earliest(board, point) == latest(board, point))
 }
 

@@ -83,7 +83,7 @@ const BOARD_SIGHTS: [(Sight, usize); 26] = [
     (Sight::EveryResource, 100),
     (Sight::FourResources, 100),
     (Sight::HighBits, 100),
-    (Sight::SeveralFlaws, 50),
+    (Sight::SeveralFlaws, 80),
     (Sight::RandomWords, 20),
     (Sight::CellOff, 100),
     (Sight::CellOffOfMany, 500),

@@ -3,11 +3,15 @@
 
 use super::sights::Sight;
 use crate::board::definition::RuleBook;
-use crate::board::{flaws, Board, MOST_JOBS, MOST_POINTS, MOST_USES, RESOURCES, ZERO_GAP};
+use crate::board::{
+    Board, BOARD_WORDS, HEADER_WORDS, JOB_WORDS, MOST_JOBS, MOST_POINTS, MOST_USES, RESOURCES,
+    SIDE, ZERO_GAP,
+};
 use crate::log::Item;
 use crate::offer::Offer;
 use crate::plant::{Plant, MOST_ACTIONS};
 use crate::replay::Session;
+use std::ops::Range;
 
 /// The triangle law of up to so many live points, the origin among them, may be tested by other
 /// code than that of more.
@@ -16,16 +20,21 @@ const FEW_POINTS: usize = 16;
 const HIGH_BITS: u32 = 8;
 /// An action from here on is one that only a large plant has.
 const LATE_ACTION: u32 = 64;
+/// A board that differs from a sound one in so many words at most was made of it.
+const FEW_WORDS: usize = 20;
 /// So many words past every limit make words that were never a board.
 const MANY_WORDS: usize = 1_000;
+/// Where the lines and the cells begin among the words.
+const LINES: usize = HEADER_WORDS + JOB_WORDS * MOST_JOBS;
+const CELLS: usize = BOARD_WORDS - SIDE * SIDE;
 
 /// What is remembered between items.
 #[derive(Default)]
 pub struct Reach {
     /// How many accepted plans use each resource.
     resources: [usize; RESOURCES],
-    /// A board made by hand whose neighbours may follow it, each with one cell changed by one.
-    base: Option<Board>,
+    /// The words of a sound board made by hand, which others that are made of it may follow.
+    base: Option<Box<[u32; BOARD_WORDS]>>,
 }
 
 impl Reach {
@@ -81,26 +90,38 @@ impl Reach {
     }
 
     fn by_hand(&mut self, board: &Board, sound: bool) -> Vec<Sight> {
-        let base = self.base.take();
-        if let Some(base) = base.filter(|base| is_neighbour(base, board)) {
-            let few = board.live() <= FEW_POINTS;
-            self.base = Some(base);
-            return vec![if few {
-                Sight::CellOff
-            } else {
-                Sight::CellOffOfMany
-            }];
-        }
-        if sound {
-            self.base = Some(board.clone());
-            return Vec::new();
-        }
         let words = board.words();
+        let base = self.base.as_ref();
+        let changes = base.map_or(Vec::new(), |base| changes(&base[..], &words[..]));
         let past_limits = words.iter().filter(|&&word| word > 2 * ZERO_GAP).count();
-        let random = past_limits > MANY_WORDS;
-        let several = !random && flaws(board) > 1;
-        only_seen(&[(Sight::RandomWords, random), (Sight::SeveralFlaws, several)])
+        let few = board.live() <= FEW_POINTS;
+        let cell_off = matches!(changes[..], [(CELLS.., 1 | u32::MAX)]);
+        let several = !sound && changes.len() <= FEW_WORDS && regions(&changes) > 1;
+        if sound && !cell_off {
+            self.base = Some(words);
+        }
+        only_seen(&[
+            (Sight::CellOff, cell_off && few),
+            (Sight::CellOffOfMany, cell_off && !few),
+            (Sight::SeveralFlaws, several),
+            (Sight::RandomWords, past_limits > MANY_WORDS),
+        ])
     }
+}
+
+/// In how many of jobs, lines and cells the changes lie.
+fn regions(changes: &[(usize, u32)]) -> usize {
+    let regions = [0..LINES, LINES..CELLS, CELLS..BOARD_WORDS];
+    let changed = |region: &Range<usize>| changes.iter().any(|(at, _)| region.contains(at));
+    regions.iter().filter(|region| changed(region)).count()
+}
+
+/// Where two boards differ, and by how much, up to the first few places and one.
+fn changes(base: &[u32], words: &[u32]) -> Vec<(usize, u32)> {
+    let pairs = base.iter().zip(words).enumerate();
+    let changed = pairs.filter(|(_, (a, b))| a != b);
+    let changes = changed.map(|(at, (a, b))| (at, a.abs_diff(*b)));
+    changes.take(FEW_WORDS + 1).collect()
 }
 
 fn only_seen(sights: &[(Sight, bool)]) -> Vec<Sight> {
@@ -128,19 +149,4 @@ fn is_overfull(board: &Board) -> bool {
     board.job_count as usize > MOST_JOBS
         || board.job_points() > MOST_POINTS as u64
         || lines.any(|line| line.count as usize > MOST_USES)
-}
-
-/// Whether two boards are the same but for one cell, which is one more or less.
-fn is_neighbour(base: &Board, board: &Board) -> bool {
-    let cells = base.cells.as_flattened().iter();
-    let pairs = cells.zip(board.cells.as_flattened());
-    let mut apart = pairs.filter(|(a, b)| a != b).map(|(a, b)| a.abs_diff(*b));
-    let cell = (apart.next(), apart.next());
-    let wraps = cell.0 == Some(u32::MAX);
-    cell.1.is_none() && (wraps || cell.0 == Some(1)) && same_but_cells(base, board)
-}
-
-fn same_but_cells(base: &Board, board: &Board) -> bool {
-    let numbers = |board: &Board| [board.horizon, board.lead, board.clock, board.job_count];
-    numbers(base) == numbers(board) && base.jobs == board.jobs && base.lines == board.lines
 }

@@ -34,7 +34,7 @@ pub enum Sight {
     FourResources,
     /// An accepted plan whose batch differs from that of another job in high bits alone.
     HighBits,
-    /// A board made by hand that breaks several clauses of soundness.
+    /// An unsound board made of a sound one by changes to more than one of jobs, lines and cells.
     SeveralFlaws,
     /// A board made by hand of words that were never a board.
     RandomWords,
@@ -77,7 +77,7 @@ impl Sight {
             Sight::EveryResource => "accepted plans of the resource that the fewest use",
             Sight::FourResources => "accepted plans that use more than three resources",
             Sight::HighBits => "batches that differ in high bits alone",
-            Sight::SeveralFlaws => "boards made by hand with several flaws",
+            Sight::SeveralFlaws => "unsound boards made of a sound one by several changes",
             Sight::RandomWords => "boards made by hand of random words",
             Sight::CellOff => "sound boards of up to 16 points with one cell off by one",
             Sight::CellOffOfMany => "sound boards of more points with one cell off by one",

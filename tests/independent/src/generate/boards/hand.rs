@@ -79,10 +79,11 @@ pub fn invented(rng: &mut Rng, script: &mut Script) {
 /// with care.
 pub fn flawed(rng: &mut Rng, script: &mut Script) {
     let press = begin(rng, script);
-    for _ in 0..80 {
+    for _ in 0..120 {
         let board = invent(rng, press.unit);
+        script.board(&board);
         let mut words = board.words();
-        for _ in 0..2 + rng.below(6) {
+        for _ in 0..2 + rng.below(8) {
             let kind = rng.below(KINDS);
             if let Some(at) = field(rng, &board, kind) {
                 let change = rng.below(CHANGES);
