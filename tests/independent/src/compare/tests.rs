@@ -1,4 +1,6 @@
 use super::*;
+use crate::board::{Board, BOARD_WORDS};
+use crate::generate::draft::{plant_file, proving_offer, proving_plant};
 
 const LOG: &str = "# a comment\nlist a\n\nplant 00\ncheck\npart 3\nfact -\n";
 
@@ -54,5 +56,85 @@ fn a_poor_log_is_told() {
     assert_eq!(comparison.differences, 0);
     for kind in [Kind::Read, Kind::Board, Kind::Retire] {
         assert!(!comparison.faults(kind).is_empty());
+    }
+}
+
+/// The comparison of a log with the right answers.
+fn compared(items: &[Item]) -> Comparison {
+    let mut session: Session = Session::default();
+    let (mut log, mut answers) = (String::new(), String::new());
+    for item in items {
+        log += &format!("{item}\n");
+        if let Some(answer) = session.answer(item) {
+            answers += &format!("{answer}\n");
+        }
+    }
+    compare(log.as_bytes(), answers.as_bytes()).unwrap()
+}
+
+#[test]
+fn what_a_board_made_by_hand_is_like_is_seen() {
+    let base = Board {
+        horizon: 1_000,
+        ..Board::default()
+    };
+    let changed = |change: fn(&mut Board)| {
+        let mut board = base.clone();
+        board.cells[0][0] = 100_000_000;
+        change(&mut board);
+        Item::Board(board)
+    };
+    let comparison = compared(&[
+        changed(|_| {}),
+        changed(|board| board.cells[0][0] += 1),
+        changed(|board| (board.clock, board.lines[2].count) = (2_000, 33)),
+        Item::Table,
+        Item::State,
+        changed(|board| board.job_count = 17),
+        Item::Board(Board::from_words(&[u32::MAX; BOARD_WORDS])),
+        Item::Table,
+    ]);
+    assert_eq!(comparison.differences, 0);
+    for (sight, times) in [
+        (Sight::CellOff, 1),
+        (Sight::CellOffOfMany, 0),
+        (Sight::SeveralFlaws, 1),
+        (Sight::RandomWords, 1),
+        (Sight::UnsoundTable, 2),
+        (Sight::UnsoundState, 1),
+        (Sight::OverfullState, 1),
+    ] {
+        assert_eq!(comparison.seen(sight), times, "{sight:?}");
+    }
+}
+
+#[test]
+fn what_an_accepted_plan_uses_and_the_room_of_a_report_are_seen() {
+    let [mut first, mut second] = [proving_offer(), proving_offer()];
+    (first.batch, second.batch) = (1, 0x101);
+    second.steps[0].places[0] = 1;
+    let comparison = compared(&[
+        Item::Plant(plant_file(&proving_plant())),
+        Item::Fresh(1_000, 5),
+        Item::Plan(first.bytes()),
+        Item::Report(3),
+        Item::Report(2),
+        Item::Report(0),
+        Item::Report(64),
+        Item::Plan(second.bytes()),
+        Item::Plan(second.bytes()[1..].to_vec()),
+    ]);
+    assert_eq!(comparison.differences, 0);
+    for (sight, times) in [
+        (Sight::JustRoom, 1),
+        (Sight::OneShort, 1),
+        (Sight::NoRoom, 1),
+        (Sight::MoreRoom, 1),
+        (Sight::HighBits, 1),
+        (Sight::EveryResource, 0),
+        (Sight::FourResources, 0),
+        (Sight::LargestPlant, 0),
+    ] {
+        assert_eq!(comparison.seen(sight), times, "{sight:?}");
     }
 }
