@@ -117,7 +117,7 @@ mod tests {
     use super::*;
     use crate::compare::compare;
     use crate::facts::fact_check;
-    use crate::log::{parse, MOST_PLANT_BYTES};
+    use crate::log::{parse, MOST_BYTES};
     use crate::replay::Session;
     use crate::ruling::Ruling;
     use world::World;
@@ -151,7 +151,7 @@ mod tests {
                 calls += usize::from(item.as_ref().is_some_and(Item::is_call));
                 retires |= item == Some(Item::Retire);
                 if let Some(Item::Plant(file)) = item {
-                    assert!(file.len() <= MOST_PLANT_BYTES);
+                    assert!(file.len() <= MOST_BYTES);
                 }
             }
             let most = if kind == Kind::Read { 40_000 } else { 40_500 };

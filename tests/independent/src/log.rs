@@ -3,8 +3,8 @@
 use crate::board::{Board, BOARD_WORDS};
 use std::fmt;
 
-/// The most bytes a `plant` line may have.
-pub const MOST_PLANT_BYTES: usize = 16_384;
+/// The most bytes a `plant`, `fact` or `plan` line may have.
+pub const MOST_BYTES: usize = 16_384;
 /// The most rows of a list that a log reports into.
 pub const MOST_ROWS: u32 = 64;
 
@@ -95,7 +95,9 @@ pub fn parse(line: &str) -> Result<Option<Item>, &'static str> {
         _ => return Err("no such line"),
     };
     match &item {
-        Item::Plant(file) if file.len() > MOST_PLANT_BYTES => Err("too many bytes"),
+        Item::Plant(bytes) | Item::Fact(bytes) | Item::Plan(bytes) if bytes.len() > MOST_BYTES => {
+            Err("too many bytes")
+        }
         Item::Report(room) if *room > MOST_ROWS => Err("too many rows"),
         _ => Ok(Some(item)),
     }

@@ -59,16 +59,18 @@ const BOARD: [Floor; 6] = [
     },
 ];
 
-const READ_SIGHTS: [(Sight, usize); 5] = [
+const READ_SIGHTS: [(Sight, usize); 7] = [
     (Sight::EmptyPart, 50),
     (Sight::FilledPart, 50),
     (Sight::ForwardPassed, 3_000),
     (Sight::ForwardFailed, 3_000),
     (Sight::ForwardGoalClash, 300),
+    (Sight::LongestPlant, 1),
+    (Sight::LongestOffer, 1),
 ];
 
 /// The last one is for logs that retire.
-const BOARD_SIGHTS: [(Sight, usize); 26] = [
+const BOARD_SIGHTS: [(Sight, usize); 28] = [
     (Sight::Table, 1_000),
     (Sight::State, 1_000),
     (Sight::AllPoints, 50),
@@ -78,6 +80,8 @@ const BOARD_SIGHTS: [(Sight, usize); 26] = [
     (Sight::UnsoundByHand, 100),
     (Sight::AllRows, 20),
     (Sight::NoRows, 50),
+    (Sight::LongestPlant, 1),
+    (Sight::LongestOffer, 1),
     (Sight::LargestPlant, 100),
     (Sight::LateAction, 100),
     (Sight::EveryResource, 100),

@@ -7,7 +7,7 @@ use crate::board::{
     Board, BOARD_WORDS, HEADER_WORDS, JOB_WORDS, MOST_JOBS, MOST_POINTS, MOST_USES, RESOURCES,
     SIDE, ZERO_GAP,
 };
-use crate::log::Item;
+use crate::log::{Item, MOST_BYTES};
 use crate::offer::Offer;
 use crate::plant::{Plant, MOST_ACTIONS};
 use crate::replay::Session;
@@ -47,6 +47,11 @@ impl Reach {
     pub fn sights(&mut self, item: &Item, accepted: bool, session: &Session) -> Vec<Sight> {
         let book = session.board().book();
         match (item, book) {
+            (Item::Plant(plant), _) if plant.len() == MOST_BYTES => vec![Sight::LongestPlant],
+            // No good offer is so long.
+            (Item::Plan(offer) | Item::Fact(offer), _) if offer.len() == MOST_BYTES => {
+                vec![Sight::LongestOffer]
+            }
             (Item::Plan(offer), Ok(book)) if accepted => self.plan(session.plant(), offer, book),
             (Item::Report(room), Ok(book)) => report(*room as usize, book),
             (Item::Board(board), book) => self.by_hand(board, book.is_ok()),

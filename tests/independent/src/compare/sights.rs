@@ -24,6 +24,9 @@ pub enum Sight {
     AllRows,
     /// A report of no rows.
     NoRows,
+    /// A plant and an offer of as many bytes as a line may have.
+    LongestPlant,
+    LongestOffer,
     /// An accepted plan of a plant with 128 actions.
     LargestPlant,
     /// An accepted plan with an action that only a large plant has.
@@ -72,6 +75,8 @@ impl Sight {
             Sight::UnsoundByHand => "unsound boards made by hand",
             Sight::AllRows => "reports of 64 rows",
             Sight::NoRows => "reports of no rows",
+            Sight::LongestPlant => "plants of 16,384 bytes",
+            Sight::LongestOffer => "offers of 16,384 bytes",
             Sight::LargestPlant => "accepted plans of a plant with 128 actions",
             Sight::LateAction => "accepted plans with an action from 64 on",
             Sight::EveryResource => "accepted plans of the resource that the fewest use",

@@ -13,7 +13,7 @@ mod script;
 mod wide;
 
 use super::rng::Rng;
-use super::{offers, List, NamedItems};
+use super::{offers, plants, List, NamedItems};
 use crate::kind::Kind;
 use crate::log::Item;
 use script::Script;
@@ -21,7 +21,7 @@ use script::Script;
 type Scenario = fn(&mut Rng, &mut Script);
 
 /// The lists that come first in every log.
-const SYSTEMATIC: [(&str, Scenario); 19] = [
+const SYSTEMATIC: [(&str, Scenario); 20] = [
     ("proving", proving::proving),
     ("freshes", limits::freshes),
     ("rooms", limits::rooms),
@@ -31,6 +31,9 @@ const SYSTEMATIC: [(&str, Scenario); 19] = [
     ("clocks", limits::clocks),
     ("orders", orders::orders),
     ("wide", wide::wide),
+    ("lengths", |rng, script| {
+        replan(rng, script, plants::lengths)
+    }),
     ("formats", |rng, script| {
         replan(rng, script, offers::formats)
     }),

@@ -4,6 +4,7 @@ use super::draft::{plant_file, ActionDraft, OfferDraft};
 use super::rng::Rng;
 use super::List;
 use crate::facts::Facts;
+use crate::log::MOST_BYTES;
 
 const NONE: Facts = Facts::NONE;
 
@@ -41,6 +42,12 @@ pub fn formats(rng: &mut Rng, list: &mut List) {
             offer.steps[step].places.push(0);
             list.fact(&offer.bytes());
         }
+    }
+    // As long as a log has a line for.
+    for length in [MOST_BYTES - 1, MOST_BYTES] {
+        let mut offer = OfferDraft::new(NONE, NONE, &actions, &[0, 1, 2]);
+        offer.left_over = vec![rng.pick(&[0, 0xFF]); length - offer.bytes().len()];
+        list.fact(&offer.bytes());
     }
 }
 

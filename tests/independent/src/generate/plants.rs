@@ -4,7 +4,7 @@ use super::draft::{plant_file, ActionDraft, OfferDraft, PlantDraft};
 use super::rng::Rng;
 use super::List;
 use crate::facts::Facts;
-use crate::log::MOST_PLANT_BYTES;
+use crate::log::MOST_BYTES;
 
 const NONE: Facts = Facts::NONE;
 const TIMES: [u32; 8] = [0, 1, 2, 999_999, 1_000_000, 1_000_001, 1 << 31, u32::MAX];
@@ -58,7 +58,7 @@ fn shift(entries: &mut [u32], change: u32) {
 
 /// Short files with and without the mark, and the longest that a log takes.
 pub fn lengths(_: &mut Rng, list: &mut List) {
-    for length in (0..=44).chain([MOST_PLANT_BYTES - 1, MOST_PLANT_BYTES]) {
+    for length in (0..=44).chain([MOST_BYTES - 1, MOST_BYTES]) {
         let zeros = vec![0; length];
         let mut marked = zeros.clone();
         let mark_start = length.saturating_sub(4);
@@ -75,7 +75,7 @@ pub fn lengths(_: &mut Rng, list: &mut List) {
     let mut draft = PlantDraft::new(&many(128));
     let index_and_trailer = draft.bytes().len() - draft.records.len();
     let mut records = draft.records.clone();
-    records.resize(MOST_PLANT_BYTES - index_and_trailer, 0);
+    records.resize(MOST_BYTES - index_and_trailer, 0);
     draft.set_records(records);
     list.try_plant(draft.bytes(), &base_offer());
 }

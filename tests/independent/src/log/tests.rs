@@ -34,7 +34,8 @@ fn comments_and_empty_lines_are_passed_over() {
 
 #[test]
 fn other_lines_end_the_replay() {
-    let too_long = Item::Plant(vec![0; MOST_PLANT_BYTES + 1]).to_string();
+    let too_long =
+        [Item::Plant, Item::Fact, Item::Plan].map(|line| line(vec![0; MOST_BYTES + 1]).to_string());
     let board = Item::Board(Board::default()).to_string();
     let bad = [
         "fresh 1",
@@ -70,7 +71,9 @@ fn other_lines_end_the_replay() {
         "plant 00 00",
         "plant --",
         "fact zz",
-        &too_long,
+        &too_long[0],
+        &too_long[1],
+        &too_long[2],
     ];
     for line in bad {
         assert!(parse(line).is_err(), "{line}");
