@@ -16,6 +16,7 @@ pub enum Fault {
     ManyRows,
     RowsWritten,
     LongLine,
+    CarriageReturn,
 }
 
 // Puts the line `! LINE WHY`.
@@ -76,5 +77,10 @@ fn put_why(out: &mut [u8], at: usize, fault: Fault) -> usize {
             b"the report wrote past its rows: the program is wrong, and its rows are not to be trusted",
         ),
         Fault::LongLine => put(out, at, b"the line is too long: use at most 65535 bytes"),
+        Fault::CarriageReturn => put(
+            out,
+            at,
+            b"the line ends with a carriage return: write the log with line feeds alone",
+        ),
     }
 }

@@ -55,6 +55,9 @@ pub fn rule_line(
     ensures { λ r. ⌜ r .plant ≤ length (now (plant .exit)) ⌝ }
 {
     let have = least(have, plant.len());
+    if is_returned(line) {
+        return result(have, Answer::Wrong(Fault::CarriageReturn));
+    }
     if is_passed_over(line) {
         return result(have, Answer::Nothing);
     }
@@ -76,6 +79,15 @@ fn result(plant: usize, answer: Answer) -> Outcome
     ensures { λ r. ⌜ r .plant ≡ plant ⌝ }
 {
     Outcome { plant, answer }
+}
+
+// A line with a carriage return before its end, as some editors write it: it is told before the word or the number that it would spoil.
+fn is_returned(line: &[u8]) -> bool {
+    let n = line.len();
+    if n == 0 {
+        return false;
+    }
+    line[n - 1] == b'\r'
 }
 
 // An empty line or a comment.
