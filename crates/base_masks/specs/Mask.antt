@@ -1,5 +1,5 @@
 -- Sets of facts in a u32 (document 01: "mask"): bit k stands for fact k.
--- The operations are those of the machine; proofs/Laws says fact by fact, by `has` alone, what each of them is, and all else is
+-- The operations are those of the machine; proofs/MaskLaws says fact by fact, by `has` alone, what each of them is, and all else is
 -- proved from those laws.
 --   has m k      fact k is in the mask m;  bit k: the mask of fact k alone
 --   share a b    some fact is in both

@@ -5,7 +5,7 @@
 --   answer r      the number and the values of a ruling, as document 01 writes them: 0 for accepted;  causeAnswer c: of a cause
 --   numberOf r    the number alone; `isValued r`, `valueOf r`: whether it has a value, and which (0 where none)
 -- Every definition of a ruling says its refusals by these, so which number has which value is said here alone; that `answer` gives back
--- number and value is the law `answer-refused` (proofs/Laws).
+-- number and value is the law `answer-refused` (proofs/RulingLaws).
 use Prim.Native.Nat.{ℕ}
 use mathlib.Core.List.{List, [], _∷_}
 use mathlib.Core.Bool.{Bool, cond, _||_}

@@ -1,5 +1,5 @@
 -- Allocations that were read.
---   ReadAllocations allocations n   the words allocations have n allocations, no more than an offer has, and the numbers of each are in range
+--   ReadAllocations ws n   the words ws hold n allocations, no more than an offer has, and the numbers of each are in range
 use Prim.Native.Nat.{ℕ, _*_, _≤_, _<_}
 use mathlib.Core.List.{List}
 use lib.ListN.{length}

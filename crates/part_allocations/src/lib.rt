@@ -11,7 +11,7 @@ ghost use Prim.Native.Nat.{_+_, _*_, _≤_};
 ghost use lib.ListN.{length};
 ghost use Rattle.part_allocations.specs.Allocations.{allocationAt, allocationsIn, allocationSize};
 
-// The words of an allocation, and of as many as an offer may have: the numbers of specs/Puts.
+// The words of an allocation, and of as many as an offer may have: the numbers of specs/Allocations.
 const ALLOCATION_SIZE: usize = 5;
 
 pub const ALLOCATIONS_SIZE: usize = ALLOCATION_SIZE * limits::MOST_ALLOCATIONS;

@@ -1,5 +1,5 @@
 -- Words that were written, read again. Assumes nothing.
---   overwritten-at          the words at the place that a list was written to (Allocation has those outside of it)
+--   overwritten-at          the words at the place that a list was written to (Overwritten has those outside of it)
 --   overwritten-is          words that are so are those that were written
 --   overwritten-again       a list written over another of its length
 --   lines-put       words that are others but for the lines are those others, with their own lines written over

@@ -1,5 +1,5 @@
 -- Lines at the moment of an allocation.
---   lineThen x w allocations k r  line r once the first k of the allocations allocations are allocation in, where p0 of their job is point x
+--   lineThen x w as k r  line r of the words w once the first k of the allocations `as` are put in, where p0 of their job is point x
 use Prim.Native.Nat.{ℕ}
 use mathlib.Core.List.{List, []}
 use lib.ListN.{getD}

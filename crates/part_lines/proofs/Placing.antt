@@ -2,7 +2,7 @@
 --   rulesFor s x ls p     the rules that are made for the allocation p
 --   placed-keeps          I is what holds of the allocations left, the lines and the rules so far; Q what is to be shown of what placing comes to
 --   placed-done           where placing comes to lines, they are those with all the allocations put in, and all fit
---   with-more, with-many  one allocation more allocation in;  there are as many lines as before
+--   with-more, with-many  one allocation more put in;  there are as many lines as before
 --   fits-more, fits-less  one allocation more fits;  the others fit without it
 use mathlib.Core.Path.{_≡_, refl, _∙_, subst}
 use mathlib.Core.Bool.{Bool, true, false, cond}

@@ -1,6 +1,6 @@
 -- The uses of an offer's allocations put into lines that are in words, one after the other. Assumes nothing.
 --   PutIn      how the words stand once k allocations are put in
---   next-fits  what putting in the next one asks for;  next-in: once it is overwritten in
+--   next-fits  what putting in the next one asks for;  next-in: once it is put in
 --   all-in     once all are put in
 use Prim.Native.Nat.{ℕ, _+_, _*_, _≤_, _<_}
 use mathlib.Core.Path.{_≡_, sym, _∙_, ap, subst}

@@ -1,4 +1,4 @@
 pub mod Steps
 pub mod Chain
-pub mod Held
+pub mod ChainMasks
 pub mod Right

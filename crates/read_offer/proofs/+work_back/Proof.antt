@@ -1,6 +1,6 @@
 -- `work_back` meets its contract, by recursion on the steps that are left. The last of them is gone back over: a clash is the answer
 -- (`back-clash`), or what must hold before it has to hold after the steps that are left then (`back-on`).
-use Rattle.read_offer.proofs.Held.{back-none, back-clash, back-on}
+use Rattle.read_offer.proofs.ChainMasks.{back-none, back-clash, back-on}
 use mathlib.Core.Path.{_∙_}
 use native.Mathlib.Omega.{arith}
 use borrow.Author.Needs.{needs}

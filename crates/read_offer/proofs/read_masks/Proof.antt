@@ -6,7 +6,7 @@ use Rattle.read_offer.specs.Offer.{stepStart, actionOf}
 use Rattle.read_offer.specs.ChainMasks.{heldAction}
 use Rattle.read_offer.proofs.Steps.{read-of, first-start}
 use Rattle.read_offer.proofs.Chain.{action-is, known-in, here, ends-within, next-at}
-use Rattle.read_offer.proofs.Held.{held-more, held-chain}
+use Rattle.read_offer.proofs.ChainMasks.{held-more, held-chain}
 use Prim.Native.Nat.{ℕ, _≤_, _-_, _<_}
 use mathlib.Core.Path.{_≡_, refl, _∙_, ap}
 use native.Mathlib.Omega.{arith}
