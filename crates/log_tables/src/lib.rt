@@ -1,9 +1,15 @@
 // Two boards compared by their gap tables: by demand 3 the same timetables are possible on both exactly when the tables are equal. A board
 // that is not sound stands for no timetables and is not compared. Each board is lent as its words.
-// It may use base_lists, part_boardwords, part_jobwords and part_sound; equal is demand 3's equal.
+// It may use base_lists, part_gaps, part_boardwords, part_jobwords and part_sound; equal is demand 3's equal.
+mod showing; // where they differ: how many entries, and a timetable of one that is none of the other
+
 use part_boardwords::layout;
 use part_jobwords::points_in;
 use part_sound::is_sound;
+pub use showing::Which;
+pub use showing::count_differences;
+pub use showing::witness_on;
+pub use showing::witness_time;
 use spec_plain::limits;
 ghost use mathlib.Core.Path.{_≡_};
 ghost use mathlib.Core.Bool.{true};

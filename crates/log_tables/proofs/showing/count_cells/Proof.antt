@@ -1,0 +1,43 @@
+-- The loop's invariant: n of the cells before place k differ.
+use Prim.Native.Nat.{_+_, _-_, _≤_}
+use mathlib.Core.List.{List}
+use mathlib.Core.Path.{_≡_, refl, _∙_, ap}
+use native.Mathlib.Omega.{arith}
+use Rattle.spec_plain.specs.Limits.{cellCount}
+use Rattle.log_tables.specs.Witness.{differing}
+use Rattle.log_tables.proofs.Witnesses.{none-yet, one-more, few}
+use Rattle.log_tables.proofs.showing.count_cells.Statement.{statement}
+use Rattle.log_tables.proofs.showing.count_cells.Tie as tie
+
+abbrev Inv-loop : tie.InvT-loop
+Inv-loop a b n₀ k₀ n k = (k ≤ cellCount) × (n ≡ differing a b k)
+
+abbrev μ-loop : tie.MeasureT-loop
+μ-loop a b n₀ k₀ n k = cellCount - k
+
+loop-holds : tie.Need-loop-holds Inv-loop μ-loop
+loop-holds c = (omega arith, none-yet _ _)
+
+counted-requires : tie.Need-counted-requires Inv-loop μ-loop
+counted-requires c κs =
+    let turn = c .before .before in
+    let start = turn .before .before .before .before in
+    omega (arith, turn .before .loop .inv .1, few (start .args .a .now) (start .args .b .now) (turn .before .loop .k))
+
+loop-again : tie.Need-loop-again Inv-loop μ-loop
+loop-again c =
+    let turn = c .before .before .before in
+    let start = turn .before .before .before .before in
+    (omega arith, one-more (start .args .a .now) (start .args .b .now) (turn .before .loop .k) _ _ _ (turn .before .loop .inv .1) (c .counted .ensures) refl)
+
+returns : tie.Need-returns Inv-loop μ-loop
+returns c =
+    let start = c .before .before .before .before in
+    c .before .loop .inv .1 ∙ ap (differing (start .args .a .now) (start .args .b .now)) {x = c .before .loop .k} {y = cellCount} (omega arith)
+
+pub count-cells-spec : {M : Type 1} → statement M
+count-cells-spec =
+    tie.close
+    (tie.spec
+    Inv-loop μ-loop loop-holds (λ c. omega arith) (λ c. omega arith) (λ c. omega arith) (λ c. omega arith) counted-requires (λ c. omega arith)
+    (λ c. omega arith) loop-again returns)
