@@ -1,6 +1,8 @@
 // Compares the boards that two logs end with: `compare FILE FILE` replays both and says whether the gap tables are equal in every entry,
 // which is whether the same timetables are possible on both boards.
-// It may use log_session and what it shows, and decides nothing of a call.
+// It may use log_session and what it shows, log_tables and call_report, and decides nothing of a call.
+mod meaning; // what an entry that differs means
+
 use libc::STDOUT_FILENO;
 use log_boardtext::put_gap;
 use log_session::Options;
@@ -11,6 +13,8 @@ use log_tables::compare;
 use log_text::least;
 use log_text::put;
 use log_text::put_number;
+use meaning::Entry;
+use meaning::put_meaning;
 use part_boardwords::BOARD_WORDS;
 
 // Room for a line of output: what waits of an error is short, and a name has at most 4096 bytes.
@@ -71,8 +75,10 @@ fn put_name(out: &mut [u8], k: usize) -> usize {
 
 fn write_answer(a: &[u32; BOARD_WORDS], b: &[u32; BOARD_WORDS]) {
     let mut out = [0u8; ROOM];
-    let end = put_answer(&mut out, compare(a, b));
-    flush(&out, end);
+    let answer = compare(a, b);
+    let end = put_answer(&mut out, answer);
+    let last = put_entry_meaning(&mut out, end, a, b, answer);
+    flush(&out, last);
 }
 
 fn put_answer(out: &mut [u8], answer: Compared) -> usize {
@@ -87,6 +93,31 @@ fn put_answer(out: &mut [u8], answer: Compared) -> usize {
             b"equal: the same timetables are possible on both boards\n",
         ),
     }
+}
+
+// Puts what it means where an entry differs, and else nothing.
+fn put_entry_meaning(
+    out: &mut [u8],
+    at: usize,
+    a: &[u32; BOARD_WORDS],
+    b: &[u32; BOARD_WORDS],
+    answer: Compared,
+) -> usize {
+    let Compared::Entry(row, column, first, second) = answer else {
+        return at;
+    };
+    put_meaning(
+        out,
+        at,
+        a,
+        b,
+        Entry {
+            row,
+            column,
+            first,
+            second,
+        },
+    )
 }
 
 fn put_unsound(out: &mut [u8], k: usize) -> usize {

@@ -1,5 +1,6 @@
 -- What the answer Equal says of two sound boards. The one premise beside: their tables have as many cells, as those of all boards that code
 -- can hold.
+--   isEqual a            whether it is the answer a
 --   cells-to, cells-of   of two tables of as many live points: it is the answer exactly when the lists of their cells are equal
 --   equal-exactly        of two boards: it is the answer exactly when as many points live and the lists of cells are equal
 use Prim.Native.Nat.{ℕ, _<_}
@@ -20,7 +21,7 @@ use Rattle.log_tables.specs.Compared.{firstDifference, comparedCells, co
 use Rattle.log_tables.proofs.Differences.{first-within, first-same, same-first}
 use Rattle.log_tables.proofs.Answers.{first-entry, no-entry, other-points, by-cells}
 
-abbrev isEqual : Compared → Bool
+abbrev pub isEqual : Compared → Bool
 isEqual FirstUnsound = false
 isEqual SecondUnsound = false
 isEqual (Points n m) = false

@@ -2,3 +2,4 @@ pub mod Differences
 pub mod Answers
 pub mod Equal
 pub mod Witnesses
+pub mod Entries

@@ -25,11 +25,11 @@ use Rattle.theorem_agreement.proofs.Lists.{agreement}
 use Rattle.theorem_agreement.proofs.Demand3.{lists-right, fed}
 
 module _ (b d : Board) where
-  live-to : pointsOf b ≡ pointsOf d → livePoints b ≡ livePoints d
+  pub live-to : pointsOf b ≡ pointsOf d → livePoints b ≡ livePoints d
   unfolding liveCount
   live-to e = ap suc e
 
-  live-of : livePoints b ≡ livePoints d → pointsOf b ≡ pointsOf d
+  pub live-of : livePoints b ≡ livePoints d → pointsOf b ≡ pointsOf d
   unfolding liveCount
   live-of e = omega (arith, e)
 

@@ -15,6 +15,7 @@ pub mod Decided
 pub mod Lists
 pub mod Demand3
 pub mod Compared
+pub mod Witness
 pub mod Ending
 pub mod TwentyOne
 pub mod Room

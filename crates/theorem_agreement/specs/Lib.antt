@@ -3,6 +3,7 @@ pub mod Timetables
 pub mod Runs
 pub mod Demand3
 pub mod Compared
+pub mod Witness
 pub mod Retire
 pub mod OnWords
 pub mod Demand2
