@@ -30,14 +30,8 @@ pub fn put_meaning(
     b: &[u32; BOARD_WORDS],
     e: Entry,
 ) -> usize {
-    let first = put_bound(out, put(out, at, b"on the first board "), a, e, e.first);
-    let second = put_bound(
-        out,
-        put(out, first, b"on the second board "),
-        b,
-        e,
-        e.second,
-    );
+    let first = put_bound(out, at, b"on the first board ", a, e, e.first);
+    let second = put_bound(out, first, b"on the second board ", b, e, e.second);
     let count = put_count(out, second, count_differences(a, b));
     put_witness(out, count, a, b, e)
 }
@@ -51,8 +45,16 @@ fn put_count(out: &mut [u8], at: usize, n: u32) -> usize {
 // ---- the entry
 
 // Puts what the cell says: how late the column's point can be after the row's. Where that is negative, it is before it.
-fn put_bound(out: &mut [u8], at: usize, w: &[u32; BOARD_WORDS], e: Entry, cell: u32) -> usize {
-    let point = put_point(out, at, w, e.column);
+fn put_bound(
+    out: &mut [u8],
+    at: usize,
+    where_so: &[u8],
+    w: &[u32; BOARD_WORDS],
+    e: Entry,
+    cell: u32,
+) -> usize {
+    let head = put(out, at, where_so);
+    let point = put_point(out, head, w, e.column);
     let bound = put_distance(out, point, cell);
     let other = put_point(out, bound, w, e.row);
     put(out, other, b"\n")
