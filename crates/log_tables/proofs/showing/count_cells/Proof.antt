@@ -1,5 +1,5 @@
 -- The loop's invariant: n of the cells before place k differ.
-use Prim.Native.Nat.{_+_, _-_, _≤_}
+use Prim.Native.Nat.{ℕ, _-_, _≤_}
 use mathlib.Core.List.{List}
 use mathlib.Core.Path.{_≡_, refl, _∙_, ap}
 use native.Mathlib.Omega.{arith}
@@ -18,22 +18,32 @@ abbrev μ-loop : tie.MeasureT-loop
 loop-holds : tie.Need-loop-holds Inv-loop μ-loop
 loop-holds c = (omega arith, none-yet _ _)
 
+-- in a turn of the loop: the cells of each board, the place that is looked at, and how many differ before it
+abbrev cellsA : tie.In-loop Inv-loop μ-loop → List ℕ
+cellsA c = c .before .before .before .before .args .a .now
+
+abbrev cellsB : tie.In-loop Inv-loop μ-loop → List ℕ
+cellsB c = c .before .before .before .before .args .b .now
+
+abbrev place : tie.In-loop Inv-loop μ-loop → ℕ
+place c = c .before .loop .k
+
+so-far : (c : tie.In-loop Inv-loop μ-loop) → c .before .loop .n ≡ differing (cellsA c) (cellsB c) (place c)
+so-far c = c .before .loop .inv .1
+
 counted-requires : tie.Need-counted-requires Inv-loop μ-loop
-counted-requires c κs =
-    let turn = c .before .before in
-    let start = turn .before .before .before .before in
-    omega (arith, turn .before .loop .inv .1, few (start .args .a .now) (start .args .b .now) (turn .before .loop .k))
+counted-requires c κs = let turn = c .before .before in omega (arith, so-far turn, few (cellsA turn) (cellsB turn) (place turn))
 
 loop-again : tie.Need-loop-again Inv-loop μ-loop
 loop-again c =
     let turn = c .before .before .before in
-    let start = turn .before .before .before .before in
-    (omega arith, one-more (start .args .a .now) (start .args .b .now) (turn .before .loop .k) _ _ _ (turn .before .loop .inv .1) (c .counted .ensures) refl)
+    (omega arith, one-more (cellsA turn) (cellsB turn) (place turn) _ _ _ (so-far turn) (c .counted .ensures) refl)
 
 returns : tie.Need-returns Inv-loop μ-loop
 returns c =
-    let start = c .before .before .before .before in
-    c .before .loop .inv .1 ∙ ap (differing (start .args .a .now) (start .args .b .now)) {x = c .before .loop .k} {y = cellCount} (omega arith)
+    let last = c .before in
+    let start = last .before .before .before in
+    last .loop .inv .1 ∙ ap (differing (start .args .a .now) (start .args .b .now)) {x = last .loop .k} {y = cellCount} (omega arith)
 
 pub count-cells-spec : {M : Type 1} → statement M
 count-cells-spec =

@@ -1,4 +1,6 @@
 -- No such row, no such point, no board; or the difference of two cells.
+use Prim.Native.Nat.{ℕ}
+use mathlib.Core.List.{List}
 use mathlib.Core.Path.{_∙_}
 use native.Mathlib.Omega.{arith}
 use borrow.Author.Needs.{needs}
@@ -15,15 +17,24 @@ returns-2 c = no-point _ _ _ (omega arith) (omega arith)
 returns-3 : tie.Need-returns-3
 returns-3 c = no-board _ _ _ (omega arith) (omega arith) (c .if3 .taken)
 
+-- past the three tests: the words of the board, the row and the point
+abbrev words : tie.Else3 → List ℕ
+words c = c .before .before .before .before .args .w .now
+
+abbrev row : tie.Else3 → ℕ
+row c = c .before .before .before .before .args .i
+
+abbrev point : tie.Else3 → ℕ
+point c = c .before .before .before .before .args .k
+
 returns-4 : tie.Need-returns-4
 returns-4 c =
-    let origin = c .before in
-    let point = origin .before in
-    let board = point .before in
-    let start = board .before .before .before .before in
+    let second = c .before in
+    let first = second .before in
+    let tested = first .before in
     c .minus .ensures
-    ∙ time-is (start .args .w .now) (start .args .i) (start .args .k) (omega arith) (omega arith) (board .if3 .left) (point .cell-at .ensures)
-    (origin .cell-at2 .ensures)
+    ∙ time-is (words tested) (row tested) (point tested) (omega arith) (omega arith) (tested .if3 .left) (first .cell-at .ensures)
+    (second .cell-at2 .ensures)
 
 pub witness-time-spec : {M : Type 1} → statement M
 witness-time-spec = tie.close (tie.spec returns returns-2 returns-3 (λ c κs. search needs) (λ c κs. search needs) (λ c κs. search needs) returns-4)
