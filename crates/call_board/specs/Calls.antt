@@ -4,7 +4,8 @@
 --   settled b n s o   accepted with the cells o; refused with the number n where there are none
 --   unlessRefused r b a  a refusal r comes first, then the answer a
 --   decided b d       what a draft d comes to: 14, 15, 16, 17, or the board with the job;  heard b r: the same of an offer as it was read, or 7 to 13
---   planned b p o     plan, of the plant file p and the offer o: 1 to 4, 6, 7 to 13, 14 to 16, 17, or the board with the job
+--   planned b p o     plan, of the plant file p and the offer o: 1 to 4, 6, 7 to 13, 14 to 16, 17, or the board with the job. That 17 and the new
+--                     table mean what document 01 says is demand 2 (crates/theorem_agreement/specs/Demand2)
 --   sendRules b place  the rules that set the points of the jobs to be sent to their earliest times
 --   sent b place      send: 6, 18, or the board with the jobs sent
 --   clocked b c       clock: 6, 19, 20, or the board with its clock moved
