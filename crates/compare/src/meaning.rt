@@ -48,12 +48,12 @@ fn put_count(out: &mut [u8], at: usize, n: u32) -> usize {
 fn put_bound(
     out: &mut [u8],
     at: usize,
-    where_so: &[u8],
+    prefix: &[u8],
     w: &[u32; BOARD_WORDS],
     e: Entry,
     cell: u32,
 ) -> usize {
-    let head = put(out, at, where_so);
+    let head = put(out, at, prefix);
     let point = put_point(out, head, w, e.column);
     let bound = put_distance(out, point, cell);
     let other = put_point(out, bound, w, e.row);
