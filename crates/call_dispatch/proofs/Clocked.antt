@@ -93,7 +93,8 @@ module _ (b : Board) (s : Sound b) where
     rules-usable =
         let h = s .horizon .1 in
         let d = s .lead in
-        subst (AllUsable _) (sym rules-are) (starts-usable _ (c + b .settings .lead) (jobsOf (b .jobs)) 1 (s .sizes) (omega arith) (omega arith) (omega (arith, h, d)))
+        subst (AllUsable _) (sym rules-are)
+        (starts-usable _ (c + b .settings .lead) (jobsOf (b .jobs)) 1 (s .sizes) (omega arith) (omega arith) (omega (arith, h, d)))
 
 -- ---- the answer
 
@@ -118,7 +119,9 @@ module _ (b : Board) (c : ℕ) where
       where
         tried : settled b 20 (Plain.clockState (stateOf b) c) (outcome ok cells) ≡ clocked b c
         unfolding clocked Plain.clockOk Plain.liveCount
-        tried = ap (settled b 20 (Plain.clockState (stateOf b) c)) (eo ∙ ap₂ (λ (x : List Rule) (m : ℕ). addedAll x m (b .gaps)) er en) ∙ sym (rw (e, le-leb _ _ later, le-leb _ _ within))
+        tried =
+            ap (settled b 20 (Plain.clockState (stateOf b) c)) (eo ∙ ap₂ (λ (x : List Rule) (m : ℕ). addedAll x m (b .gaps)) er en)
+            ∙ sym (rw (e, le-leb _ _ later, le-leb _ _ within))
 
         pub none-left : ok ≡ false → refusal b 20 ≡ clocked b c
         unfolding settled outcome

@@ -156,7 +156,9 @@ module _ (w : List ℕ) (len : length w ≡ boardSize) (e : sound (boardIn w) �
   -- the words after the call, where the oldest job is not over, and where it is
   pub retired-words :
       (ok : Bool) → j .sent ≡ true
-      → ok ≡ entailsAll (tableOf (cellsRead (wordIn w))) (ends (settingsRead (wordIn w)) (1 + j .points - 1) (wordIn w clockAt) (j .points) (linesRead (wordIn w)))
+      → ok
+      ≡ entailsAll (tableOf (cellsRead (wordIn w)))
+      (ends (settingsRead (wordIn w)) (1 + j .points - 1) (wordIn w clockAt) (j .points) (linesRead (wordIn w)))
       → (ok ≡ false → (Refused (plain 21) ≡ retired (boardIn w) .ruling) × (w ≡ wordsAfter w (retired (boardIn w))))
       × ((n : ℕ) (t x z : List ℕ) → ok ≡ true → n ≡ suc (total (jobsOf (heldJobs (wordIn w))))
       → t ≡ dropped (lentTable w) 1 (j .points) n → length (wordsWith w t) ≡ boardSize
@@ -168,9 +170,12 @@ module _ (w : List ℕ) (len : length w ≡ boardSize) (e : sound (boardIn w) �
     (λ n t x z yes en et size ex ez.
         let new = jobsFrom (drop 1 (jobsOf (heldJobs (wordIn w)))) in
         let ls = linesFrom (map (staying 1 m) (linesOf (b .lines))) in
-        answered w z (retired b) _ (retired-is b _ _ first e was ok read yes new ls t n refl refl en (et ∙ ap (λ (l : List ℕ). dropped l 1 m n) (cells-lent w len)))
+        answered w z (retired b) _
+        (retired-is b _ _ first e was ok read yes new ls t n refl refl en (et ∙ ap (λ (l : List ℕ). dropped l 1 m n) (cells-lent w len)))
         (assembled w e len t (wordIn w clockAt) new x ex size ls z
-        (ez ∙ ap (λ (l : List Line). overwritten x linesAt (linesWords (linesFrom (map (staying 1 m) (linesOf l))))) (lines-kept w e len t (wordIn w clockAt) new x ex)))),
+        (ez
+        ∙ ap (λ (l : List Line). overwritten x linesAt (linesWords (linesFrom (map (staying 1 m) (linesOf l)))))
+        (lines-kept w e len t (wordIn w clockAt) new x ex)))),
   )
     where
       b : Board

@@ -31,7 +31,10 @@ ghost use Rattle.call_board.specs.InWords.{wordsAfter};
 fn is_over(w: &[u32], m: u32) -> bool
     requires { ⌜ length (now w) ≡ boardSize ⌝ }
     requires { ⌜ InReach (cellsRead (wordIn (now w))) (wordIn (now w) clockAt) 1 m × (1 ≤ m) × Lined (linesRead (wordIn (now w))) ⌝ }
-    ensures { λ r. ⌜ r ≡ entailsAll (tableOf (cellsRead (wordIn (now (w .entry))))) (overBy (1 + m - 1) (trayGap (settingsRead (wordIn (now (w .entry))))) (wordIn (now (w .entry)) clockAt) ∷ allEndBy (settingsRead (wordIn (now (w .entry)))) (wordIn (now (w .entry)) clockAt) 1 m (linesOf (linesRead (wordIn (now (w .entry)))))) ⌝ }
+    ensures { λ r. ⌜ r ≡
+        entailsAll (tableOf (cellsRead (wordIn (now (w .entry)))))
+        (overBy (1 + m - 1) (trayGap (settingsRead (wordIn (now (w .entry))))) (wordIn (now (w .entry)) clockAt)
+        ∷ allEndBy (settingsRead (wordIn (now (w .entry)))) (wordIn (now (w .entry)) clockAt) 1 m (linesOf (linesRead (wordIn (now (w .entry)))))) ⌝ }
 {
     are_over(
         &w[layout::CELLS_AT..],

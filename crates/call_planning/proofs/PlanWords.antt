@@ -169,4 +169,5 @@ module _ {w : List ℕ} {o : Offer} {r : Drafted} {n m top : ℕ} (p : Planning 
             (assembled w (p .is-sound) (p .size) t (wordIn w clockAt) jobs-then x ex same lines z
             (ez
             ∙ ap (λ (v : List ℕ). overwritten v linesAt (linesWords lines)) ey
-            ∙ overwritten-again x linesAt (linesWords old) (linesWords lines) (length-lines old ∙ sym (length-lines lines)) (omega (arith, long, length-lines lines))))
+            ∙ overwritten-again x linesAt (linesWords old) (linesWords lines) (length-lines old ∙ sym (length-lines lines))
+            (omega (arith, long, length-lines lines))))

@@ -144,7 +144,9 @@ module _ (o : Offer) (s : SizedOffer o) (steps : Steps) (es : steps ≡ stepsHel
   pub held-count : (steps .count ≡ length (o .steps)) × (steps .count ≤ mostSteps)
   held-count = let n = ap (λ (x : Steps). x .count) es in (n, omega (arith, n, s .few))
 
-pub held-read : (o : Offer) → SizedOffer o → (allocations : List ℕ) (n : ℕ) → allocationsSize ≤ length allocations → allocationsIn allocations n ≡ o .allocations → ReadAllocations allocations n
+pub held-read :
+    (o : Offer) → SizedOffer o → (allocations : List ℕ) (n : ℕ) → allocationsSize ≤ length allocations → allocationsIn allocations n ≡ o .allocations
+    → ReadAllocations allocations n
 held-read o s allocations n room e =
     let many : n ≡ length (o .allocations) = sym (build-length (allocationAt allocations) n) ∙ ap length e in
     record {
@@ -152,8 +154,10 @@ held-read o s allocations n room e =
       few = omega (arith, many, s .count);
       each = λ k h.
           let is : getD (o .allocations) k (allocationAt allocations k) ≡ allocationAt allocations k =
-          ap (λ (ps : List Allocation). getD ps k (allocationAt allocations k)) (sym e) ∙ build-at (allocationAt allocations) n k (allocationAt allocations k) h in
-          subst Readable is (all-at (SizedAllocation (length (o .steps))) (o .allocations) (allocationAt allocations k) (s .allocations) k (omega (arith, many)) .readable);
+          ap (λ (ps : List Allocation). getD ps k (allocationAt allocations k)) (sym e)
+          ∙ build-at (allocationAt allocations) n k (allocationAt allocations k) h in
+          subst Readable is
+          (all-at (SizedAllocation (length (o .steps))) (o .allocations) (allocationAt allocations k) (s .allocations) k (omega (arith, many)) .readable);
     }
 
 -- ---- before the offer is read

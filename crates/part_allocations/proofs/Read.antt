@@ -19,7 +19,9 @@ use Rattle.part_allocations.specs.ReadAllocations.{ReadAllocations}
 pub read-less : (allocations : List ℕ) (n k : ℕ) → ReadAllocations allocations n → k ≤ n → ReadAllocations allocations k
 read-less allocations n k r h = record { there = omega (arith, r .there); few = omega (arith, r .few); each = λ j l. r .each j (omega arith) }
 
-pub left-next : (allocations : List ℕ) (n k : ℕ) → k < n → drop k (allocationsIn allocations n) ≡ allocationAt allocations k ∷ drop (k + 1) (allocationsIn allocations n)
+pub left-next :
+    (allocations : List ℕ) (n k : ℕ) → k < n
+    → drop k (allocationsIn allocations n) ≡ allocationAt allocations k ∷ drop (k + 1) (allocationsIn allocations n)
 left-next allocations n k h =
     let le : k < length (allocationsIn allocations n) = omega (arith, build-length (allocationAt allocations) n) in
     drop-cons (allocationsIn allocations n) k (allocationAt allocations k) le
@@ -28,7 +30,8 @@ left-next allocations n k h =
 
 pub left-over : (allocations : List ℕ) (n k : ℕ) → n ≤ k → drop k (allocationsIn allocations n) ≡ []
 left-over allocations n k h =
-    let le : length (allocationsIn allocations n) ≤ k = omega (arith, build-length (allocationAt allocations) n) in drop-of-length-le (allocationsIn allocations n) le
+    let le : length (allocationsIn allocations n) ≤ k = omega (arith, build-length (allocationAt allocations) n) in
+    drop-of-length-le (allocationsIn allocations n) le
 
 pub used-short : (x : ℕ) (p : Allocation) → Readable p → Short (usedFrom x p)
 unfolding usedFrom

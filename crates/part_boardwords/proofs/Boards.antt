@@ -4,7 +4,7 @@
 --   held-jobs, held-job  how many jobs words hold, and which;  job-next, job-over: what is left of them, after k
 --   same-line, same-lines   equal words give equal lines
 --   same-marks, same-jobs   equal words before the lines give equal marks and jobs
-use Prim.Native.Nat.{ℕ, _+_, _*_, _<_, _≤_}
+use Prim.Native.Nat.{ℕ, _+_, _<_, _≤_}
 use mathlib.Core.Path.{_≡_, refl, sym, _∙_, ap}
 use mathlib.Core.List.{List, [], _∷_}
 use native.Mathlib.Omega.{arith}

@@ -14,7 +14,6 @@ use lib.ListN.{length, getD, set, take, length-set, length-append}
 use lib.Seq.{take-all, set-append-left, getD-set-other}
 use native.Mathlib.Numerals.{add-one}
 use native.Mathlib.Omega.{arith}
-use Rattle.base_lists.specs.Loops.{build}
 use Rattle.base_lists.proofs.Build.{build-length}
 use Rattle.spec_plain.specs.declared.Job.{Job}
 use Rattle.part_lines.specs.declared.Line.{Line}
@@ -22,7 +21,8 @@ use Rattle.part_lines.specs.ArrayLists.{noJob, noLine}
 use Rattle.spec_plain.specs.Plain.{noUse}
 use Rattle.part_boardwords.specs.Board.{Board}
 use Rattle.part_boardwords.specs.Layout.{jobSize, useSize, lineSize, jobsSize, linesSize, jobsAt, linesAt, cellsAt, boardSize}
-use Rattle.part_boardwords.specs.Codec.{joined, overwritten, jobWords, useWords, lineWords, headWords, jobsWords, linesWords, cellsWords, frameWords, wordsOf}
+use Rattle.part_boardwords.specs.Codec.{joined, overwritten, jobWords, useWords, lineWords, headWords, jobsWords, linesWords, cellsWords, frameWords}
+use Rattle.part_boardwords.specs.Codec.{wordsOf}
 use Rattle.part_boardwords.proofs.Blocks.{length-joined}
 
 pub overwritten-length : (w : List ℕ) (at : ℕ) (l : List ℕ) → length (overwritten w at l) ≡ length w
@@ -130,12 +130,14 @@ length-words b =
 
 -- head, jobs and lines written one behind the other
 pub overwritten-frame :
-    (b : Board) (w x y z : List ℕ) → x ≡ overwritten w 0 (headWords b) → y ≡ overwritten x jobsAt (jobsWords (b .jobs .jobs)) → z ≡ overwritten y linesAt (linesWords (b .lines))
+    (b : Board) (w x y z : List ℕ) → x ≡ overwritten w 0 (headWords b) → y ≡ overwritten x jobsAt (jobsWords (b .jobs .jobs))
+    → z ≡ overwritten y linesAt (linesWords (b .lines))
     → z ≡ overwritten w 0 (frameWords b)
 unfolding frameWords
 overwritten-frame b w x y z ex ey ez =
     let J = jobsWords (b .jobs .jobs) in
     let L = linesWords (b .lines) in
     let one : overwritten w 0 (headWords b ++ (J ++ L)) ≡ overwritten x jobsAt (J ++ L) = rw ex (overwritten-append w 0 (headWords b) (J ++ L) jobsAt refl) in
-    let two : overwritten x jobsAt (J ++ L) ≡ overwritten y linesAt L = rw ey (overwritten-append x jobsAt J L linesAt (omega (arith, length-jobs (b .jobs .jobs)))) in
+    let two : overwritten x jobsAt (J ++ L) ≡ overwritten y linesAt L =
+    rw ey (overwritten-append x jobsAt J L linesAt (omega (arith, length-jobs (b .jobs .jobs)))) in
     sym (one ∙ (two ∙ sym ez))

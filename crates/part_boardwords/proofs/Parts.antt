@@ -8,7 +8,7 @@
 --   job-sent                         words that differ in the mark alone, which is 1
 --   head-other                       word i of a head, but for clock and count, is that of the settings
 use Prim.Native.Nat.{ℕ, zero, suc, _+_, _<_, _≤_}
-use mathlib.Core.Path.{_≡_, refl, sym, _∙_, ap}
+use mathlib.Core.Path.{_≡_, refl, _∙_, ap}
 use mathlib.Core.Bool.{Bool, true, false}
 use lib.ListN.{getD}
 use lib.Dec.{eqb}
@@ -21,7 +21,7 @@ use Rattle.part_lines.specs.ArrayLists.{noJob}
 use Rattle.part_boardwords.specs.Board.{Board}
 use Rattle.part_boardwords.specs.Layout.{horizonAt, leadAt, clockAt, countAt, headSize, batchIn, sentIn, jobSize, offsetIn, lengthIn, useSize, jobStart}
 use Rattle.part_boardwords.specs.Words.{Words, wordIn, zeros, settingsRead, jobRead, jobAt, useRead, boardRead}
-use Rattle.part_boardwords.specs.Codec.{markOf, jobWords, useWords, headWords, wordsOf, frameWords}
+use Rattle.part_boardwords.specs.Codec.{markOf, jobWords, useWords, headWords}
 
 -- ---- marks
 

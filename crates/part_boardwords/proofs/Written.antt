@@ -4,7 +4,7 @@
 --   overwritten-again       a list written over another of its length
 --   lines-put       words that are others but for the lines are those others, with their own lines written over
 --   written-lines   lines that were written, read again
-use Prim.Native.Nat.{ℕ, zero, suc, _+_, _-_, _*_, _<_, _≤_}
+use Prim.Native.Nat.{ℕ, zero, suc, _+_, _-_, _<_, _≤_}
 use mathlib.Core.Path.{_≡_, refl, sym, _∙_, ap}
 use mathlib.Core.List.{List, [], _∷_}
 use lib.ListN.{length, getD, set, length-set}
@@ -51,7 +51,8 @@ overwritten-is w x at l e room inside below from =
         ∙ sym (overwritten-at w at l k (k - at) is (omega arith) room)
     go k (no ge) (no past) = from k (omega arith) ∙ sym (overwritten-from w at l k (omega arith))
 
-pub overwritten-again : (w : List ℕ) (at : ℕ) (l m : List ℕ) → length l ≡ length m → at + length m ≤ length w → overwritten (overwritten w at l) at m ≡ overwritten w at m
+pub overwritten-again :
+    (w : List ℕ) (at : ℕ) (l m : List ℕ) → length l ≡ length m → at + length m ≤ length w → overwritten (overwritten w at l) at m ≡ overwritten w at m
 overwritten-again w at l m same room =
     overwritten-is w (overwritten (overwritten w at l) at m) at m (overwritten-length (overwritten w at l) at m ∙ overwritten-length w at l) room
     (λ i h. overwritten-at (overwritten w at l) at m (at + i) i refl h (omega (arith, overwritten-length w at l)))

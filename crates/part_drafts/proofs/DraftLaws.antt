@@ -16,7 +16,8 @@ use Rattle.base_rulings.specs.declared.Cause.{Cause}
 use Rattle.base_rulings.specs.declared.Ruling.{Ruling}
 use Rattle.base_rulings.specs.declared.Ruling.the-variants.{Accepted, Refused}
 use Rattle.spec_plain.specs.Limits.{mostUses, mostSteps, mostAllocations}
-use Rattle.spec_plain.specs.Plain.{State, Offer, Placed, Draft, liveCount, notBefore, durations, inserted, ruleBefore, ruleAfter, usedFrom, placed, withJobs, withLines, trayGap, batchRules, full, newPoints, jobFrom, joining, drafted}
+use Rattle.spec_plain.specs.Plain.{State, Offer, Placed, Draft, liveCount, notBefore, durations, inserted, ruleBefore, ruleAfter, usedFrom, placed, withJobs}
+use Rattle.spec_plain.specs.Plain.{withLines, trayGap, batchRules, full, newPoints, jobFrom, joining, drafted}
 use Rattle.part_lines.specs.ArrayLists.{rulesOf, rulesFrom, answered}
 use Rattle.part_lines.specs.Asked.{Room}
 use Rattle.spec_plain.specs.declared.Settings.{Settings}

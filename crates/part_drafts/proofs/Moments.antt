@@ -9,9 +9,9 @@
 --   Sought                 a use that is looked for, and where
 --   look-other, look-here, look-behind, look-before   where it is without the last allocation: that is in another line, is the use itself, went in
 --                          before it, or behind it;  look-words: in the words
-use Prim.Native.Nat.{ℕ, zero, suc, _+_, _-_, _*_, _≤_, _<_}
+use Prim.Native.Nat.{ℕ, zero, suc, _+_, _-_, _≤_, _<_}
 use mathlib.Core.Path.{_≡_, refl, sym, _∙_, ap, subst}
-use mathlib.Core.List.{List, [], _∷_}
+use mathlib.Core.List.{List, []}
 use lib.ListN.{length, getD, set, length-map}
 use lib.Seq.{getD-set-same, getD-set-other}
 use native.Mathlib.Numerals.{add-one}
@@ -43,7 +43,8 @@ module _ (x : ℕ) (w allocations : List ℕ) where
   then k = allWith x (linesIn w) (allocationsIn allocations k)
 
   pub then-more : (k : ℕ) → then (k + 1) ≡ linesWith x (then k) (allocationAt allocations k)
-  then-more k = ap (allWith x (linesIn w)) (build-more (allocationAt allocations) k) ∙ with-more x (linesIn w) (allocationsIn allocations k) (allocationAt allocations k)
+  then-more k =
+      ap (allWith x (linesIn w)) (build-more (allocationAt allocations) k) ∙ with-more x (linesIn w) (allocationsIn allocations k) (allocationAt allocations k)
 
   then-many : (k : ℕ) → length (then k) ≡ 16
   then-many k = with-many x (linesIn w) (allocationsIn allocations k) ∙ length-map (linesRead (wordIn w)) lineOf ∙ build-length (lineAt (wordIn w)) resources
@@ -65,28 +66,37 @@ module _ (x : ℕ) (w allocations : List ℕ) where
 
   then-own :
       (k r : ℕ) → allocationAt allocations k .resource ≡ r → r < resources
-      → lineThen x w allocations (k + 1) r ≡ inserted (allocationAt allocations k .place) (usedFrom x (allocationAt allocations k)) (lineThen x w allocations k r)
+      → lineThen x w allocations (k + 1) r
+      ≡ inserted (allocationAt allocations k .place) (usedFrom x (allocationAt allocations k)) (lineThen x w allocations k r)
   then-own k r e h =
+      let put : List Use → List Use = inserted (allocationAt allocations k .place) (usedFrom x (allocationAt allocations k)) in
       ap (λ (ls : List (List Use)). getD ls r []) (then-more k)
-      ∙ ap (λ (i : ℕ). getD (set (then k) i (inserted (allocationAt allocations k .place) (usedFrom x (allocationAt allocations k)) (getD (then k) i []))) r []) e
-      ∙ getD-set-same (then k) r (inserted (allocationAt allocations k .place) (usedFrom x (allocationAt allocations k)) (lineThen x w allocations k r)) [] (omega (arith, then-many k))
+      ∙ ap (λ (i : ℕ). getD (set (then k) i (put (getD (then k) i []))) r []) e
+      ∙ getD-set-same (then k) r (put (lineThen x w allocations k r)) [] (omega (arith, then-many k))
 
-  pub then-long : (k r : ℕ) → allocationAt allocations k .resource ≡ r → r < resources → length (lineThen x w allocations (k + 1) r) ≡ suc (length (lineThen x w allocations k r))
+  pub then-long :
+      (k r : ℕ) → allocationAt allocations k .resource ≡ r → r < resources
+      → length (lineThen x w allocations (k + 1) r) ≡ suc (length (lineThen x w allocations k r))
   then-long k r e h =
-      ap length (then-own k r e h) ∙ length-inserted (allocationAt allocations k .place) (usedFrom x (allocationAt allocations k)) (lineThen x w allocations k r)
+      ap length (then-own k r e h)
+      ∙ length-inserted (allocationAt allocations k .place) (usedFrom x (allocationAt allocations k)) (lineThen x w allocations k r)
 
   fits-then :
       (k : ℕ) → AllFit x (linesIn w) (allocationsIn allocations (k + 1))
       → AllFit x (linesIn w) (allocationsIn allocations k)
       × (allocationAt allocations k .place ≤ length (lineThen x w allocations k (allocationAt allocations k .resource)))
       × (length (lineThen x w allocations k (allocationAt allocations k .resource)) < 32)
-  fits-then k f = fits-less x (linesIn w) (allocationsIn allocations k) (allocationAt allocations k) (subst (AllFit x (linesIn w)) (build-more (allocationAt allocations) k) f)
+  fits-then k f =
+      fits-less x (linesIn w) (allocationsIn allocations k) (allocationAt allocations k)
+      (subst (AllFit x (linesIn w)) (build-more (allocationAt allocations) k) f)
 
   pub fits-next :
-      (k : ℕ) → AllFit x (linesIn w) (allocationsIn allocations k) → allocationAt allocations k .place ≤ length (lineThen x w allocations k (allocationAt allocations k .resource))
+      (k : ℕ) → AllFit x (linesIn w) (allocationsIn allocations k)
+      → allocationAt allocations k .place ≤ length (lineThen x w allocations k (allocationAt allocations k .resource))
       → length (lineThen x w allocations k (allocationAt allocations k .resource)) < 32 → AllFit x (linesIn w) (allocationsIn allocations (k + 1))
   fits-next k f place room =
-      subst (AllFit x (linesIn w)) (sym (build-more (allocationAt allocations) k)) (fits-more x (linesIn w) (allocationsIn allocations k) (allocationAt allocations k) f place room)
+      subst (AllFit x (linesIn w)) (sym (build-more (allocationAt allocations) k))
+      (fits-more x (linesIn w) (allocationsIn allocations k) (allocationAt allocations k) f place room)
 
   pub then-short : Lined (linesRead (wordIn w)) → (k : ℕ) → ReadAllocations allocations k → (r : ℕ) → AllShort (lineThen x w allocations k r)
   then-short lined zero read r = subst (λ (ls : List (List Use)). AllShort (getD ls r [])) (sym (none-yet .0)) (lined .short r)
@@ -94,7 +104,8 @@ module _ (x : ℕ) (w allocations : List ℕ) where
       let before = then-short lined k (read-less allocations (suc k) k read (omega arith)) in
       subst (λ (ls : List (List Use)). AllShort (getD ls r [])) (sym (ap then (sym (add-one k)) ∙ then-more k))
       (set-all AllShort (then k) (allocationAt allocations k .resource) _ []
-      (inserted-short _ (allocationAt allocations k .place) _ (used-short x (allocationAt allocations k) (read .each k (omega arith))) (before (allocationAt allocations k .resource))) before r)
+      (inserted-short _ (allocationAt allocations k .place) _ (used-short x (allocationAt allocations k) (read .each k (omega arith)))
+      (before (allocationAt allocations k .resource))) before r)
 
 -- ---- a use looked for
 

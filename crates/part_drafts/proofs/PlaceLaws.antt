@@ -33,7 +33,8 @@ use Rattle.part_drafts.specs.declared.placing.Placement.{Placement}
 
 -- ---- the plain machine's first step
 
-module _ (s : Settings) (x i : ℕ) (p : Allocation) (ps : List Allocation) (ls : List (List Use)) (rs : List Rule) (l : List Use) (e : getD ls (p .resource) [] ≡ l) where
+module _ (s : Settings) (x i : ℕ) (p : Allocation) (ps : List Allocation) (ls : List (List Use)) (rs : List Rule) (l : List Use)
+    (e : getD ls (p .resource) [] ≡ l) where
   pub placed-far : length l < p .place → placed s x i (p ∷ ps) ls rs ≡ Placed.stop (cause 15 i)
   unfolding placed
   placed-far h = rw (e, lt-ltb (length l) (p .place) h)
@@ -134,7 +135,8 @@ pub record Going (s : Settings) (x : ℕ) (ps : List Allocation) (start now : Re
   pub room : Room (2 * mostAllocations + 1 - (k + k)) (now .rules)
 
 module _
-    {s : Settings} {x k : ℕ} {ps : List Allocation} {start now : Reached} (G : Going s x ps start now k) (p : Allocation) (r : Reached) (next : drop k ps ≡ p ∷ drop (k + 1) ps)
+    {s : Settings} {x k : ℕ} {ps : List Allocation} {start now : Reached} (G : Going s x ps start now k) (p : Allocation) (r : Reached)
+    (next : drop k ps ≡ p ∷ drop (k + 1) ps)
     (out : Outcome (now .rules) r (placed s x k (p ∷ []) (now .lines) (rulesOf (now .rules)))) where
   runs-on :
       placed s x 0 ps (start .lines) (rulesOf (start .rules)) ≡ andThen (answerOf r) (placed s x (suc k) (drop (k + 1) ps))
@@ -170,7 +172,8 @@ module _
   pub went-in : r .ruling ≡ Accepted → (p .place ≤ length (lineFor (now .lines) p)) × (length (lineFor (now .lines) p) < mostUses)
   unfolding answered AllFit
   went-in e =
-      let fits = placed-done s x k (p ∷ []) (now .lines) (r .lines) (rulesOf (now .rules)) (rulesOf (r .rules)) (sym (sym (answer-by Accepted e) ∙ out .0)) .0 in
+      let fits = placed-done s x k (p ∷ []) (now .lines) (r .lines) (rulesOf (now .rules)) (rulesOf (r .rules))
+      (sym (sym (answer-by Accepted e) ∙ out .0)) .0 in
       (fits .0, fits .1)
 
 pub all-placed :

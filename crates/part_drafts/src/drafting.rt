@@ -63,9 +63,11 @@ pub fn draft(
     many: usize,
 ) -> Drafted
     requires { ⌜ cellsAt ≤ length (now w) ⌝ }
-    requires { ⌜ Sized (heldJobs (wordIn (now w))) × (n ≡ total (jobsOf (heldJobs (wordIn (now w))))) × (wordIn (now w) clockAt ≤ 100000000) × (settings .lead ≤ 1000000) ⌝ }
+    requires { ⌜ Sized (heldJobs (wordIn (now w))) × (n ≡ total (jobsOf (heldJobs (wordIn (now w)))))
+        × (wordIn (now w) clockAt ≤ 100000000) × (settings .lead ≤ 1000000) ⌝ }
     requires { ⌜ Lined (linesRead (wordIn (now w))) × (steps .count ≤ mostSteps) × ReadAllocations (now allocations) many ⌝ }
-    ensures { λ r. ⌜ DraftedAs r (drafted (withSettings (stateOf (boardIn (now (w .entry)))) settings) (heldOffer batch steps (allocationsIn (now (allocations .entry)) many))) ⌝ }
+    ensures { λ r. ⌜ DraftedAs r
+        (drafted (withSettings (stateOf (boardIn (now (w .entry)))) settings) (heldOffer batch steps (allocationsIn (now (allocations .entry)) many))) ⌝ }
 {
     let count = steps.count as u32;
     if is_full(w, n, count + 1) {

@@ -43,7 +43,8 @@ pub fn use_in(
     resource: u32,
     place: usize,
 ) -> Use
-    requires { ⌜ (cellsAt ≤ length (now w)) × Lined (linesRead (wordIn (now w))) × ReadAllocations (now allocations) k × (resource < resources) × (first ≤ mostPoints) ⌝ }
+    requires { ⌜ (cellsAt ≤ length (now w)) × Lined (linesRead (wordIn (now w)))
+        × ReadAllocations (now allocations) k × (resource < resources) × (first ≤ mostPoints) ⌝ }
     requires { ⌜ AllFit first (linesIn (now w)) (allocationsIn (now allocations) k) × (place < length (lineThen first (now w) (now allocations) k resource)) ⌝ }
     ensures { λ r. ⌜ r ≡ getD (lineThen first (now (w .entry)) (now (allocations .entry)) k resource) place noUse ⌝ }
 {

@@ -51,10 +51,13 @@ fn rule_before(
     k: usize,
     allocation: Allocation,
 ) -> Maybe
-    requires { ⌜ (cellsAt ≤ length (now w)) × Lined (linesRead (wordIn (now w))) × ReadAllocations (now allocations) k × Readable allocation × (first ≤ mostPoints) ⌝ }
-    requires { ⌜ AllFit first (linesIn (now w)) (allocationsIn (now allocations) k) × (allocation .place ≤ length (lineThen first (now w) (now allocations) k (allocation .resource))) ⌝ }
-    ensures { λ r. ⌜ r ≡ maybeFrom (ruleBefore settings (lineThen first (now (w .entry)) (now (allocations .entry)) k (allocation .resource)) (allocation .place)
-        (usedFrom first allocation)) ⌝ }
+    requires { ⌜ (cellsAt ≤ length (now w)) × Lined (linesRead (wordIn (now w)))
+        × ReadAllocations (now allocations) k × Readable allocation × (first ≤ mostPoints) ⌝ }
+    requires { ⌜ AllFit first (linesIn (now w)) (allocationsIn (now allocations) k)
+        × (allocation .place ≤ length (lineThen first (now w) (now allocations) k (allocation .resource))) ⌝ }
+    ensures { λ r. ⌜ r ≡
+        maybeFrom (ruleBefore settings (lineThen first (now (w .entry)) (now (allocations .entry)) k (allocation .resource))
+        (allocation .place) (usedFrom first allocation)) ⌝ }
 {
     let place = allocation.place as usize;
     if place == 0 {
@@ -74,10 +77,13 @@ fn rule_after(
     allocation: Allocation,
     number: usize,
 ) -> Maybe
-    requires { ⌜ (cellsAt ≤ length (now w)) × Lined (linesRead (wordIn (now w))) × ReadAllocations (now allocations) k × Readable allocation × (first ≤ mostPoints) ⌝ }
-    requires { ⌜ AllFit first (linesIn (now w)) (allocationsIn (now allocations) k) × (number ≡ length (lineThen first (now w) (now allocations) k (allocation .resource))) ⌝ }
-    ensures { λ r. ⌜ r ≡ maybeFrom (ruleAfter settings (lineThen first (now (w .entry)) (now (allocations .entry)) k (allocation .resource)) (allocation .place)
-        (usedFrom first allocation)) ⌝ }
+    requires { ⌜ (cellsAt ≤ length (now w)) × Lined (linesRead (wordIn (now w)))
+        × ReadAllocations (now allocations) k × Readable allocation × (first ≤ mostPoints) ⌝ }
+    requires { ⌜ AllFit first (linesIn (now w)) (allocationsIn (now allocations) k)
+        × (number ≡ length (lineThen first (now w) (now allocations) k (allocation .resource))) ⌝ }
+    ensures { λ r. ⌜ r ≡
+        maybeFrom (ruleAfter settings (lineThen first (now (w .entry)) (now (allocations .entry)) k (allocation .resource))
+        (allocation .place) (usedFrom first allocation)) ⌝ }
 {
     let place = allocation.place as usize;
     if number <= place {
@@ -103,7 +109,8 @@ fn stopped(cause: Cause) -> Placement
 fn place_one(w: &[u32], settings: Settings, first: u32, allocations: &[u32], k: usize) -> Placement
     requires { ⌜ (cellsAt ≤ length (now w)) × Lined (linesRead (wordIn (now w))) × ReadAllocations (now allocations) (k + 1) × (first ≤ mostPoints) ⌝ }
     requires { ⌜ AllFit first (linesIn (now w)) (allocationsIn (now allocations) k) ⌝ }
-    ensures { λ r. ⌜ PlacedAs settings first k (allocationAt (now (allocations .entry)) k) (allWith first (linesIn (now (w .entry))) (allocationsIn (now (allocations .entry)) k)) r ⌝ }
+    ensures { λ r. ⌜ PlacedAs settings first k (allocationAt (now (allocations .entry)) k)
+        (allWith first (linesIn (now (w .entry))) (allocationsIn (now (allocations .entry)) k)) r ⌝ }
 {
     let allocation = read_allocation(allocations, k);
     let place = allocation.place as usize;

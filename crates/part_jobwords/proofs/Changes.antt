@@ -2,7 +2,7 @@
 --   add-front       a job written behind the others, and the count stored
 --   sent-none, sent-more, sent-front   the first k jobs marked, and the places behind the jobs cleared
 --   left-front      the jobs behind the oldest moved down by one place, and the count stored
-use Prim.Native.Nat.{ℕ, zero, suc, _+_, _*_, _<_, _≤_}
+use Prim.Native.Nat.{ℕ, zero, suc, _+_, _<_, _≤_}
 use mathlib.Core.Path.{_≡_, refl, sym, _∙_, ap}
 use mathlib.Core.Bool.{true}
 use mathlib.Core.List.{List, [], _∷_, _++_}

@@ -24,7 +24,7 @@ use Rattle.base_lists.proofs.Build.{build-same, build-at, build-back}
 use Rattle.base_lists.proofs.Rewritten.{rewritten-length, rewritten-in, rewritten-below, rewritten-from}
 use Rattle.part_boardwords.specs.Layout.{clockAt, countAt, headSize, jobsSize, jobsAt, linesAt, jobStart, markAt}
 use Rattle.part_boardwords.specs.Words.{Words, wordIn, jobAt, jobsRead, heldJobs, isMarked, allMarked}
-use Rattle.part_boardwords.specs.Codec.{jobsWords, overwritten}
+use Rattle.part_boardwords.specs.Codec.{jobsWords}
 use Rattle.part_boardwords.proofs.Overwritten.{length-jobs}
 use Rattle.part_boardwords.proofs.Inverse.{jobs-read}
 use Rattle.part_boardwords.proofs.Parts.{job-same, job-zero}

@@ -26,7 +26,8 @@ rulesFor s x ls p = ruleBefore s (lineFor ls p) (p .place) (usedFrom x p) ++ rul
 module _ (s : Settings) (x : ℕ) (I : List Allocation → List (List Use) → List Rule → Type 0) (Q : Placed → Type 0)
     (stops : (i : ℕ) → Q (Placed.stop (cause 15 i)) × Q (Placed.stop (cause 16 i)))
     (ends : (ls : List (List Use)) (rs : List Rule) → I [] ls rs → Q (Placed.done ls rs))
-    (keeps : (p : Allocation) (ps : List Allocation) (ls : List (List Use)) (rs : List Rule) → p .place ≤ length (lineFor ls p) → length (lineFor ls p) < mostUses
+    (keeps : (p : Allocation) (ps : List Allocation) (ls : List (List Use)) (rs : List Rule)
+    → p .place ≤ length (lineFor ls p) → length (lineFor ls p) < mostUses
     → I (p ∷ ps) ls rs → I ps (linesWith x ls p) (rs ++ rulesFor s x ls p)) where
   pub placed-keeps : (i : ℕ) (ps : List Allocation) (ls : List (List Use)) (rs : List Rule) → I ps ls rs → Q (placed s x i ps ls rs)
   unfolding placed

@@ -2,7 +2,7 @@
 --   line-inserted     the line that is read afterwards;  beside-line: the other words are what they were
 -- The words afterwards: the count is one more; those of the uses before the place stay, those of the use stand at the place, and those of
 -- the uses behind it stand one use further up.
-use Prim.Native.Nat.{ℕ, zero, suc, _+_, _-_, _*_, _≤_, _<_}
+use Prim.Native.Nat.{ℕ, zero, suc, _+_, _-_, _≤_, _<_}
 use mathlib.Core.Path.{_≡_, refl, sym, _∙_, ap}
 use mathlib.Core.List.{List}
 use lib.ListN.{length, getD, set, List·getD-eq-default}

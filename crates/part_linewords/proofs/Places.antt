@@ -36,7 +36,8 @@ pub line-put :
     → ((m : ℕ) → m < 32 → useAt (wordIn x) at m ≡ getD us m noUse) → ((k : ℕ) → k < at → getD x k 0 ≡ getD w k 0)
     → ((k : ℕ) → lineEnd at ≤ k → getD x k 0 ≡ getD w k 0) → x ≡ overwritten w at (lineWords (lineFrom us))
 line-put w x at us few e room count uses below from =
-    overwritten-is w x at l e (omega (arith, size)) inside below (λ k h. from k (omega (arith, size))) ∙ ap (overwritten w at) (sym (line-at x at us few count uses))
+    overwritten-is w x at l e (omega (arith, size)) inside below (λ k h. from k (omega (arith, size)))
+    ∙ ap (overwritten w at) (sym (line-at x at us few count uses))
   where
     f : ℕ → ℕ
     f j = wordIn x (at + usesIn + j)

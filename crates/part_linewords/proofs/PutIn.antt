@@ -2,7 +2,7 @@
 --   PutIn      how the words stand once k allocations are put in
 --   next-fits  what putting in the next one asks for;  next-in: once it is put in
 --   all-in     once all are put in
-use Prim.Native.Nat.{ℕ, _+_, _*_, _≤_, _<_}
+use Prim.Native.Nat.{ℕ, _+_, _≤_, _<_}
 use mathlib.Core.Path.{_≡_, sym, _∙_, ap, subst}
 use mathlib.Core.List.{List, [], _∷_}
 use lib.ListN.{length, getD, set, drop}
@@ -40,7 +40,8 @@ pub record PutIn (x : ℕ) (allocations : List ℕ) (n : ℕ) (v w : List ℕ) (
   pub size : length w ≡ length v
 
 module _
-    {x : ℕ} {allocations : List ℕ} {n : ℕ} {v w : List ℕ} {k : ℕ} (s : PutIn x allocations n v w k) (more : k < n) (read : ReadAllocations allocations n) (p : Allocation)
+    {x : ℕ} {allocations : List ℕ} {n : ℕ} {v w : List ℕ} {k : ℕ} (s : PutIn x allocations n v w k) (more : k < n) (read : ReadAllocations allocations n)
+    (p : Allocation)
     (is : p ≡ allocationAt allocations k) where
   left : drop k (allocationsIn allocations n) ≡ p ∷ drop (k + 1) (allocationsIn allocations n)
   left = left-next allocations n k more ∙ ap (λ (q : Allocation). q ∷ drop (k + 1) (allocationsIn allocations n)) (sym is)

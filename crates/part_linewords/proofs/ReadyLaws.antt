@@ -1,12 +1,11 @@
 -- Lines that are Ready.
 --   words-tidy     a line of words has 0 in every place not in use;  words-size: it holds as many as its count says
 --   stays-ready    lines stay Ready when a use is put into one of them, and which lines are held then
-use Prim.Native.Nat.{ℕ, _+_, _*_, _≤_, _<_}
+use Prim.Native.Nat.{ℕ, _<_}
 use mathlib.Core.Path.{_≡_, sym, _∙_, ap, subst}
 use mathlib.Core.List.{List, []}
-use lib.ListN.{length, getD, set, length-take, length-set, length-map}
+use lib.ListN.{length, getD, set, length-set, length-map}
 use native.Mathlib.Omega.{arith}
-use Rattle.base_lists.proofs.Build.{build-length}
 use Rattle.spec_plain.specs.Limits.{resources}
 use Rattle.spec_plain.specs.declared.Use.{Use}
 use Rattle.spec_plain.specs.Plain.{inserted}
@@ -16,8 +15,8 @@ use Rattle.part_lines.specs.Asked.{Short, AllShort, Ready}
 use Rattle.part_lines.proofs.Lists.{map-set, map-at, set-all}
 use Rattle.part_lines.proofs.LineLaws.{line-back, length-inserted}
 use Rattle.part_boardwords.specs.Layout.{lineStart}
-use Rattle.part_boardwords.specs.Words.{Words, useAt, lineAt, linesRead}
-use Rattle.part_boardwords.proofs.Boards.{line-of, line-count, line-held}
+use Rattle.part_boardwords.specs.Words.{Words, lineAt, linesRead}
+use Rattle.part_boardwords.proofs.Boards.{line-of, line-held}
 use Rattle.part_linewords.specs.Beside.{Tidy}
 use Rattle.part_lines.proofs.Inserted.{inserted-short}
 

@@ -3,7 +3,7 @@
 --   thin-none   the loop's start;  thin-size: how many stay
 --   thin-more   its turn: use k is read, as it was at first, and what stays of it written behind what stays of those before it
 --   stay-put    a line whose uses were moved to the front, whose count was stored and whose other places were cleared
-use Prim.Native.Nat.{ℕ, _+_, _*_, _<_, _≤_}
+use Prim.Native.Nat.{ℕ, _+_, _<_, _≤_}
 use mathlib.Core.Path.{_≡_, refl, sym, _∙_, ap, subst}
 use mathlib.Core.List.{List, [], _∷_, _++_}
 use lib.ListN.{length, getD, set, take, length-set, length-take, length-append, List·getD-append}

@@ -52,7 +52,9 @@ module _ (p o : List ℕ) (ok : plantRuling p ≡ Accepted) (read : offerRuling 
         some = r .some;
       }
 
-  step-allocations-sized : (k : ℕ) → k < stepCount o → (n j : ℕ) → j + n ≤ allocationCount p (recordOf p o k) → All (SizedAllocation (stepCount o)) (allocationsOfStep p o k j n)
+  step-allocations-sized :
+      (k : ℕ) → k < stepCount o → (n j : ℕ) → j + n ≤ allocationCount p (recordOf p o k)
+      → All (SizedAllocation (stepCount o)) (allocationsOfStep p o k j n)
   unfolding allocationsOfStep
   step-allocations-sized k h zero j le = tt
   step-allocations-sized k h (suc n) j le = (allocation-sized k j h (omega arith), step-allocations-sized k h n (j + 1) (omega arith))

@@ -147,7 +147,8 @@ module _ (p o : List ℕ) (k many : ℕ) (f : ℕ → Allocation) where
 -- ---- step after step
 
 puts-end :
-    (p o : List ℕ) (k n : ℕ) → allocationsFrom p o k (n + 1) ≡ allocationsFrom p o k n ++ allocationsOfStep p o (k + n) 0 (allocationCount p (recordOf p o (k + n)))
+    (p o : List ℕ) (k n : ℕ)
+    → allocationsFrom p o k (n + 1) ≡ allocationsFrom p o k n ++ allocationsOfStep p o (k + n) 0 (allocationCount p (recordOf p o (k + n)))
 unfolding allocationsFrom
 puts-end p o k zero =
     append-nil (allocationsOfStep p o k 0 (allocationCount p (recordOf p o k)))

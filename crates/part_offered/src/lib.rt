@@ -101,8 +101,10 @@ fn push_step(
     many: usize,
 )
     requires { ⌜ (start ≡ recordOf (now plant) (now offer) k) × (at ≡ stepStart (now plant) (now offer) k) ⌝ }
-    requires { ⌜ (start + 28 + 12 * n ≤ length (now plant)) × (at + 4 + 4 * n ≤ length (now offer)) × (allocationSize * (many + n) ≤ length (now allocations)) ⌝ }
-    ensures { λ _. ⌜ allocationsIn (now (allocations .exit)) (many + n) ≡ allocationsIn (now (allocations .entry)) many ++ allocationsOfStep (now (plant .entry)) (now (offer .entry)) k 0 n ⌝ }
+    requires { ⌜ (start + 28 + 12 * n ≤ length (now plant)) × (at + 4 + 4 * n ≤ length (now offer))
+        × (allocationSize * (many + n) ≤ length (now allocations)) ⌝ }
+    ensures { λ _. ⌜ allocationsIn (now (allocations .exit)) (many + n) ≡
+        allocationsIn (now (allocations .entry)) many ++ allocationsOfStep (now (plant .entry)) (now (offer .entry)) k 0 n ⌝ }
 {
     for j in 0..n {
         push_allocation(

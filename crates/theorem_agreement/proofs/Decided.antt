@@ -19,7 +19,8 @@ use Rattle.base_rulings.specs.declared.Ruling.the-variants.{Accepted}
 use Rattle.base_rulings.specs.Answer.{refuse}
 use Rattle.spec_plain.specs.Limits.{mostJobs, mostPoints}
 use Rattle.spec_plain.specs.declared.Rule.{Rule}
-use Rattle.spec_plain.specs.Plain.{Offer, State, Draft, total, newPoints, upperBound, bounds, drafted, unsentAt, unsentPoints, clockOk, clockState, starts, sentState}
+use Rattle.spec_plain.specs.Plain.{Offer, State, Draft, total, newPoints, upperBound, bounds, drafted}
+use Rattle.spec_plain.specs.Plain.{unsentAt, unsentPoints, clockOk, clockState, starts, sentState}
 use Rattle.spec_plain.specs.Rules.{KeepsAll}
 use Rattle.part_lines.specs.ArrayLists.{noJob}
 use Rattle.part_lines.proofs.JobLaws.{unsent-at}
@@ -108,5 +109,7 @@ module _ (b : Board) (w : Shaped b) (s : Sound b) where
       let is = jobs-count b w s in
       let heard-as : planned b p o ≡ decided b (drafted (stateOf b) offer) = planned-is b w s p o ∙ ap (heard b) e in
       rw heard-as
-      (subst (λ (k : ℕ). (decided b (drafted (stateOf b) offer) .ruling ≡ refuse 14) ↔ ((k ≡ mostJobs) ⊎ (mostPoints < total (stateOf b .jobs) + newPoints offer))) is
+      (subst
+      (λ (k : ℕ). (decided b (drafted (stateOf b) offer) .ruling ≡ refuse 14) ↔ ((k ≡ mostJobs) ⊎ (mostPoints < total (stateOf b .jobs) + newPoints offer)))
+      is
       (decided-14 b offer (omega (arith, is, few))))

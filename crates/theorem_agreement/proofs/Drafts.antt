@@ -145,5 +145,6 @@ module _ {s : State} (p : Limits s) (o : Offer) (sized : SizedOffer o) where
       go false e =
           let room = within s (newPoints o) e in
           joining-sized (placed (s .settings) (liveCount s) 0 (o .allocations) (s .lines) []) (room .0) (room .1)
-          (placed-sized (s .settings) points (liveCount s) (length (o .steps)) 0 (o .allocations) (s .lines) [] (omega arith) (omega arith) (sized .allocations) (p .sixteen)
+          (placed-sized (s .settings) points (liveCount s) (length (o .steps)) 0 (o .allocations) (s .lines) [] (omega arith) (omega arith)
+          (sized .allocations) (p .sixteen)
           (all-map (SizedLine (total (s .jobs))) (SizedLine points) (line-wider (total (s .jobs)) points (omega arith)) (s .lines) (p .lines)))

@@ -101,7 +101,9 @@ module _ (s : Settings) (t : Table) (c m : ℕ) where
   unfolding entailsAll allEndBy
   late-lines [] e = absurd (true≢false e)
   late-lines (us ∷ ls) e =
-      go (both-false (entailsAll t (endsBy s c 1 m us)) (entailsAll t (allEndBy s c 1 m ls)) (sym (implied-append t (endsBy s c 1 m us) (allEndBy s c 1 m ls)) ∙ e))
+      go
+      (both-false (entailsAll t (endsBy s c 1 m us)) (entailsAll t (allEndBy s c 1 m ls))
+      (sym (implied-append t (endsBy s c 1 m us) (allEndBy s c 1 m ls)) ∙ e))
       (late-lines ls)
     where
       go :

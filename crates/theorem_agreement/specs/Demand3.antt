@@ -1,9 +1,9 @@
 -- Demand 3: "The two gap tables .. are equal in every entry exactly when the same timetables are possible on both boards."
 --   SameCells b d   all 4225 cells of the two boards' tables are equal
 --   Demand3         the claim: any two fresh boards, any two lists of calls that leave the same number of live points
--- Settings in range are those that fresh accepts. Each board has its own rule book, fed that board's list: it has the board's rulings and comes
--- to a book, and the claim holds of k and j whichever they come to (`RunsTo`). Possible is the rule book's: whole numbers for the retired points complete the timetable so
--- that every rule made by the accepted calls of the list is kept. The same of the words that C lends: specs/OnWords.
+-- Settings in range are those that fresh accepts. Each board has its own rule book, fed that board's list: it has the board's rulings and comes to a
+-- book, and the claim holds of k and j whichever they come to (`RunsTo`). Possible is the rule book's: whole numbers for the retired points complete
+-- the timetable so that every rule made by the accepted calls of the list is kept. The same of the words that C lends: specs/OnWords.
 use mathlib.Core.Path.{_≡_}
 use mathlib.Core.Logic.{_↔_}
 use mathlib.Core.List.{List}

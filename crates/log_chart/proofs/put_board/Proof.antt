@@ -10,20 +10,18 @@ use Rattle.log_chart.proofs.put_board.Statement.{statement}
 use Rattle.log_chart.proofs.put_board.Tie as tie
 
 points-in-requires : tie.Need-points-in-requires
-points-in-requires c κs =
-    let entry = c .before .before in
+points-in-requires c κs = let entry : tie.Start = search in
     let b = boardIn (entry .args .w .now) in
-    (omega (arith, entry .pre .0), sound-sized b (entry .pre .1) .count, sound-few b (entry .pre .1))
+    (omega arith, sound-sized b (entry .pre .1) .count, sound-few b (entry .pre .1))
 
 put-shown-requires : tie.Need-put-shown-requires
-put-shown-requires c κs =
-    let entry = c .before .before .before .before .before in
+put-shown-requires c κs = let entry : tie.Start = search in
     let w = entry .args .w .now in
     let few = sound-sized (boardIn w) (entry .pre .1) .points in (
       entry .pre .0,
       length-lent w (entry .pre .0),
       sound-to (boardIn w) (build-length (lineAt (wordIn w)) resources) (entry .pre .1),
-      omega (arith, few, c .before .before .points-in .ensures),
+      omega (arith, few),
     )
 
 pub put-board-spec : {M : Type 1} → statement M

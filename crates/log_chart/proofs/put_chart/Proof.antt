@@ -8,10 +8,9 @@ use Rattle.log_chart.proofs.put_chart.Statement.{statement}
 use Rattle.log_chart.proofs.put_chart.Tie as tie
 
 put-board-requires : tie.Need-put-board-requires
-put-board-requires c κs =
-    let w = c .before .before .before .before .before .before .before .before .args .w .now in
-    let is = holds (c .before .before .before .before .before .is-sound .ensures) (c .before .before .before .before .if1 .left) in
-    let whole = lent-whole w is in
+put-board-requires c κs = let tested : tie.Else1 = search in let asked : tie.After-is-sound = search in let entry : tie.Start = search in
+    let is = holds (asked .is-sound .ensures) (tested .if1 .left) in
+    let whole = lent-whole (entry .args .w .now) is in
     (whole .0, sym (ap sound (whole .1)) ∙ is)
 
 pub put-chart-spec : {M : Type 1} → statement M

@@ -9,7 +9,8 @@ use Rattle.spec_plain.specs.declared.Settings.{Settings}
 use Rattle.spec_plain.specs.Plain.{total}
 use Rattle.part_lines.specs.declared.Jobs.{Jobs}
 use Rattle.part_lines.specs.ArrayLists.{jobsOf}
-use Rattle.part_boardwords.specs.Words.{wordIn, heldJobs}
+use Rattle.part_boardwords.specs.Layout.{clockAt}
+use Rattle.part_boardwords.specs.Words.{wordIn, settingsRead, heldJobs}
 use Rattle.part_sound.specs.Sound.{allOf, sizedNumbers, sizedJob, sizedJobs, clausesKept}
 use Rattle.part_sound.proofs.Flags.{fails, passes, holds, breaks}
 use Rattle.part_sound.proofs.Soundness.{few-points}
@@ -37,69 +38,50 @@ module _ (jobs : Jobs) where
 numbers-test : {s v : Settings} (clock : ℕ) {r : Bool} → r ≡ sizedNumbers s clock → s ≡ v → r ≡ sizedNumbers v clock
 numbers-test clock e h = e ∙ ap (λ (x : Settings). sizedNumbers x clock) h
 
+-- what each test that is passed has shown: the numbers are sized, and each job is
+numbers :
+    (c : tie.Else1)
+    → (let entry : tie.Start = search in
+    let w = wordIn (entry .args .w .now) in
+    sizedNumbers (settingsRead w) (w clockAt) ≡ true)
+numbers c = let sized : tie.After-are-numbers-sized = search in let read : tie.After-settings-in = search in
+    holds (numbers-test _ (sized .are-numbers-sized .ensures) (read .settings-in .ensures)) (c .if1 .left)
+
+each : (c : tie.Else3) → (let entry : tie.Start = search in allOf sizedJob (jobsOf (heldJobs (wordIn (entry .args .w .now)))) ≡ true)
+each c = holds (c .before .is-each-sized .ensures) (c .if3 .left)
+
 returns : tie.Need-returns
 unfolding clausesKept
-returns c =
-    let sized = c .before in
-    let read = sized .before .before in
-    fails _ (breaks (numbers-test _ (sized .are-numbers-sized .ensures) (read .settings-in .ensures)) (c .if1 .taken))
+returns c = let read : tie.After-settings-in = search in
+    fails _ (breaks (numbers-test _ (c .before .are-numbers-sized .ensures) (read .settings-in .ensures)) (c .if1 .taken))
 
 returns-2 : tie.Need-returns-2
 unfolding clausesKept
-returns-2 c =
-    let first = c .before .before in
-    let sized = first .before in
-    let read = sized .before .before in
-    let jobs = heldJobs (wordIn (read .before .before .before .args .w .now)) in
-    let numbers = holds (numbers-test _ (sized .are-numbers-sized .ensures) (read .settings-in .ensures)) (first .if1 .left) in
-    passes numbers (fails _ (too-many jobs (c .if2 .taken)))
+returns-2 c = let first : tie.Else1 = search in let entry : tie.Start = search in
+    passes (numbers first) (fails _ (too-many (heldJobs (wordIn (entry .args .w .now))) (c .if2 .taken)))
 
 returns-3 : tie.Need-returns-3
 unfolding clausesKept
-returns-3 c =
-    let few = c .before .before in
-    let first = few .before .before in
-    let sized = first .before in
-    let read = sized .before .before in
-    let jobs = heldJobs (wordIn (read .before .before .before .args .w .now)) in
-    let numbers = holds (numbers-test _ (sized .are-numbers-sized .ensures) (read .settings-in .ensures)) (first .if1 .left) in
-    passes numbers (fails _ (not-each jobs (few .if2 .left) (breaks (c .before .is-each-sized .ensures) (c .if3 .taken))))
+returns-3 c = let few : tie.Else2 = search in let first : tie.Else1 = search in let entry : tie.Start = search in
+    let jobs = heldJobs (wordIn (entry .args .w .now)) in
+    passes (numbers first) (fails _ (not-each jobs (few .if2 .left) (breaks (c .before .is-each-sized .ensures) (c .if3 .taken))))
 
 points-in-requires : tie.Need-points-in-requires
-points-in-requires c κs =
-    let few = c .before .before in
-    let read = few .before .before .before .before .before in
-    let entry = read .before .before .before in
-    let jobs = heldJobs (wordIn (entry .args .w .now)) in
-    let each = holds (c .before .is-each-sized .ensures) (c .if3 .left) in
-    (entry .pre .0, few .if2 .left, few-points (jobsOf jobs) each)
+points-in-requires c κs = let few : tie.Else2 = search in let entry : tie.Start = search in
+    (entry .pre .0, few .if2 .left, few-points (jobsOf (heldJobs (wordIn (entry .args .w .now)))) (each c))
 
 returns-4 : tie.Need-returns-4
 unfolding clausesKept
-returns-4 c =
-    let third = c .before .before in
-    let few = third .before .before in
-    let first = few .before .before in
-    let sized = first .before in
-    let read = sized .before .before in
-    let jobs = heldJobs (wordIn (read .before .before .before .args .w .now)) in
-    let numbers = holds (numbers-test _ (sized .are-numbers-sized .ensures) (read .settings-in .ensures)) (first .if1 .left) in
-    let each = holds (third .before .is-each-sized .ensures) (third .if3 .left) in
-    passes numbers (fails _ (too-long jobs (few .if2 .left) each (rw (c .before .points-in .ensures) at (c .if4 .taken))))
+returns-4 c = let third : tie.Else3 = search in let few : tie.Else2 = search in let first : tie.Else1 = search in let entry : tie.Start = search in
+    let jobs = heldJobs (wordIn (entry .args .w .now)) in
+    passes (numbers first) (fails _ (too-long jobs (few .if2 .left) (each third) (rw (c .before .points-in .ensures) at (c .if4 .taken))))
 
 are-others-kept-requires : tie.Need-are-others-kept-requires
-are-others-kept-requires c κs =
-    let third = c .before .before in
-    let few = third .before .before in
-    let first = few .before .before in
-    let sized = first .before in
-    let read = sized .before .before in
-    let entry = read .before .before .before in
+are-others-kept-requires c κs = let third : tie.Else3 = search in let few : tie.Else2 = search in let first : tie.Else1 = search in
+    let entry : tie.Start = search in
     let jobs = heldJobs (wordIn (entry .args .w .now)) in
-    let numbers = holds (numbers-test _ (sized .are-numbers-sized .ensures) (read .settings-in .ensures)) (first .if1 .left) in
-    let each = holds (third .before .is-each-sized .ensures) (third .if3 .left) in
-    let all = all-sized jobs (few .if2 .left) each (rw (c .before .points-in .ensures) at (c .if4 .left)) in
-    (entry .pre, (numbers, all, c .before .points-in .ensures))
+    let all = all-sized jobs (few .if2 .left) (each third) (rw (c .before .points-in .ensures) at (c .if4 .left)) in
+    (entry .pre, (numbers first, all, c .before .points-in .ensures))
 
 pub are-clauses-kept-spec : {M : Type 1} → statement M
 are-clauses-kept-spec =

@@ -10,7 +10,7 @@ returns : tie.Need-returns
 returns c = sym (not-board (c .before .before .args .w .now) (c .if1 .taken))
 
 returns-2 : tie.Need-returns-2
-returns-2 c = let entry = c .before .before .before in
+returns-2 c = let entry : tie.Start = search in
     c .is-sound-in .ensures ∙ ap sound (sym (lent-is (entry .args .w .now) (c .before .if1 .left)))
 
 pub is-sound-spec : {M : Type 1} → statement M

@@ -10,12 +10,13 @@ use Rattle.part_sound.proofs.is_sound_in.Statement.{statement}
 use Rattle.part_sound.proofs.is_sound_in.Tie as tie
 
 returns : tie.Need-returns
-returns c = sym (unmarked (wordIn (c .before .before .before .args .w .now)) (breaks (c .before .are-marked .ensures) (c .if1 .taken)))
+returns c = let entry : tie.Start = search in
+    sym (unmarked (wordIn (entry .args .w .now)) (breaks (c .before .are-marked .ensures) (c .if1 .taken)))
 
 returns-2 : tie.Need-returns-2
 unfolding sound
-returns-2 c = let tested = c .before .before .before in
-    let entry = tested .before .before in
+returns-2 c = let tested : tie.After-are-marked = search in
+    let entry : tie.Start = search in
     passes (holds (tested .are-marked .ensures) (c .before .before .if1 .left))
     (c .are-clauses-kept .ensures ∙ ap clausesKept (framed-in (entry .args .w .now) (entry .pre)))
 

@@ -11,22 +11,22 @@ use Rattle.call_dispatch.proofs.clocking.clock_sound.Statement.{stateme
 use Rattle.call_dispatch.proofs.clocking.clock_sound.Tie as tie
 
 returns : tie.Need-returns
-returns c = let entry = c .before .before .before in
+returns c = let entry : tie.Start = search in
     unanswered (entry .args .w .now) _ _ (plain 19) (back (boardIn (entry .args .w .now)) (entry .args .c) (entry .pre .1) (c .if1 .taken))
 
 returns-2 : tie.Need-returns-2
-returns-2 c = let read = c .before .before in
-    let first = read .before .before in
-    let entry = first .before .before .before in
+returns-2 c = let read : tie.After-settings-in = search in
+    let first : tie.Else1 = search in
+    let entry : tie.Start = search in
     let w = entry .args .w .now in
     let horizon = ap (λ (s : Settings). s .horizon) (read .settings-in .ensures) in
-    unanswered w _ _ (plain 19) (past (boardIn w) (entry .args .c) (entry .pre .1) (first .if1 .left) (omega (arith, horizon, c .if2 .taken)))
+    unanswered w _ _ (plain 19) (past (boardIn w) (entry .args .c) (entry .pre .1) (first .if1 .left) (omega (arith, horizon)))
 
 move-clock-requires : tie.Need-move-clock-requires
 move-clock-requires c κs = let second = c .before in
-    let read = second .before .before in
-    let first = read .before .before in
-    let entry = first .before .before .before in
+    let read : tie.After-settings-in = search in
+    let first : tie.Else1 = search in
+    let entry : tie.Start = search in
     (entry .pre .0, (entry .pre .1, read .settings-in .ensures, first .if1 .left, second .if2 .left))
 
 pub clock-sound-spec : {M : Type 1} → statement M

@@ -11,25 +11,19 @@ use Rattle.call_dispatch.proofs.ending.are_over.Statement.{statement}
 use Rattle.call_dispatch.proofs.ending.are_over.Tie as tie
 
 add-if1-2 : tie.Need-add-if1-2
-add-if1-2 c =
-    let entry = c .before .before .before .before in
-    let A = entry .args in
+add-if1-2 c = let entry : tie.Start = search in let A = entry .args in
     let last = A .f + A .m - 1 in
-    omega (arith, origin-row (A .t .now) last, entry .pre .0 .bounded last (omega arith), c .tray-gap .ensures)
+    omega (arith, origin-row (A .t .now) last, entry .pre .0 .bounded last (omega arith))
 
 returns : tie.Need-returns
-returns c =
-    let gap = c .before in
-    let A = gap .before .before .before .before .args in
-    last-late (A .t .now) (A .clock) (A .f + A .m - 1) (trayGap (A .settings)) _ (omega (arith, gap .tray-gap .ensures, c .if1 .taken))
+returns c = let entry : tie.Start = search in
+    last-late (entry .args .t .now) (entry .args .clock) (entry .args .f + entry .args .m - 1) (trayGap (entry .args .settings)) _ (omega arith)
 
 returns-2 : tie.Need-returns-2
-returns-2 c =
-    let gap = c .before .before in
-    let A = gap .before .before .before .before .args in
+returns-2 c = let entry : tie.Start = search in let A = entry .args in
     last-over (A .t .now) (A .clock) (A .f + A .m - 1) (trayGap (A .settings))
     (allEndBy (A .settings) (A .clock) (A .f) (A .m) (linesOf (linesRead (wordIn (A .w .now))))) (c .lines-end .result) (c .lines-end .ensures)
-    (omega (arith, gap .tray-gap .ensures, c .before .if1 .left))
+    (omega arith)
 
 pub are-over-spec : {M : Type 1} → statement M
 are-over-spec =

@@ -23,19 +23,16 @@ loop-holds : tie.Need-loop-holds Inv-loop μ-loop
 loop-holds c = (omega arith, refl)
 
 use-ends-requires : tie.Need-use-ends-requires Inv-loop μ-loop
-use-ends-requires c κs =
-    let turn = c .before .before in
-    let entry = turn .before .before .before .before in
-    let A = entry .args in
+use-ends-requires c κs = let turn : tie.At-loop Inv-loop μ-loop = search in let entry : tie.Start Inv-loop μ-loop = search in let A = entry .args in
     let k = turn .loop .k in
     let is = read-at (wordIn (A .w .now)) (A .at) k (omega arith) (omega arith) (c .use-at .result) (c .use-at .ensures) in
     (entry .pre .0, subst Short is (entry .pre .3 k))
 
 loop-again : tie.Need-loop-again Inv-loop μ-loop
-loop-again c =
+loop-again c = let entry : tie.Start Inv-loop μ-loop = search in
     let read = c .before in
-    let turn = read .before .before in
-    let A = turn .before .before .before .before .args in
+    let turn : tie.At-loop Inv-loop μ-loop = search in
+    let A = entry .args in
     let L = turn .loop in
     let w = wordIn (A .w .now) in
     let u = read .use-at .result in (
@@ -45,9 +42,9 @@ loop-again c =
     )
 
 returns : tie.Need-returns Inv-loop μ-loop
-returns c =
+returns c = let entry : tie.Start Inv-loop μ-loop = search in
     let turn = c .before in
-    let A = turn .before .before .before .before .args in
+    let A = entry .args in
     let L = turn .loop in
     let w = wordIn (A .w .now) in
     uses-end (A .t .now) (A .settings) (A .clock) (A .f) (A .m) (lineOf (lineRead w (A .at))) (L .k) (L .ok) (L .inv .1)

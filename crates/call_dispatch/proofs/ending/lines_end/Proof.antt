@@ -22,17 +22,15 @@ loop-holds c = (omega arith, refl)
 
 line-ends-requires : tie.Need-line-ends-requires Inv-loop μ-loop
 line-ends-requires c κs =
-    let turn = c .before .before in
-    let entry = turn .before .before .before in
-    let start = c .line-start .ensures in
+    let turn : tie.At-loop Inv-loop μ-loop = search in let entry : tie.Start Inv-loop μ-loop = search in let start = c .line-start .ensures in
     let line = lined-read (wordIn (entry .args .w .now)) (turn .loop .k) _ (omega arith) start (entry .pre .2) in
     (entry .pre .0, omega (arith, start), line .0, line .1)
 
 loop-again : tie.Need-loop-again Inv-loop μ-loop
-loop-again c =
+loop-again c = let entry : tie.Start Inv-loop μ-loop = search in
     let start = c .before in
-    let turn = start .before .before in
-    let A = turn .before .before .before .args in
+    let turn : tie.At-loop Inv-loop μ-loop = search in
+    let A = entry .args in
     let L = turn .loop in (
       omega arith,
       read-line-next (A .t .now) (A .settings) (A .clock) (A .f) (A .m) (wordIn (A .w .now)) (L .k) (L .ok) (L .inv .1) _ _ (omega arith)
@@ -40,9 +38,9 @@ loop-again c =
     )
 
 returns : tie.Need-returns Inv-loop μ-loop
-returns c =
+returns c = let entry : tie.Start Inv-loop μ-loop = search in
     let turn = c .before in
-    let A = turn .before .before .before .args in
+    let A = entry .args in
     let L = turn .loop in
     read-line-end (A .t .now) (A .settings) (A .clock) (A .f) (A .m) (wordIn (A .w .now)) (L .k) (L .ok) (L .inv .1) (omega arith)
 

@@ -14,39 +14,28 @@ use Rattle.call_dispatch.proofs.ending.use_ends.Statement.{statement}
 use Rattle.call_dispatch.proofs.ending.use_ends.Tie as tie
 
 returns : tie.Need-returns
-returns c =
+returns c = let entry : tie.Start = search in
     let asked = c .before in
-    let A = asked .before .before .args in
     let stays = sym (asked .goes .ensures) ∙ not-true _ (c .if1 .taken) in
-    ends-stays (A .t .now) (A .settings) (A .clock) (A .f) (A .m) (A .u) stays
+    ends-stays (entry .args .t .now) (entry .args .settings) (entry .args .clock) (entry .args .f) (entry .args .m) (entry .args .u) stays
 
 shared-slice-read-result : tie.Need-shared-slice-read-result
-shared-slice-read-result c =
-    let test = c .before .before in
-    let asked = test .before in
-    let A = asked .before .before .args in
+shared-slice-read-result c = let entry : tie.Start = search in let test : tie.Else1 = search in let asked : tie.After-goes = search in
     let leaves = sym (asked .goes .ensures) ∙ not-false _ (test .if1 .left) in
-    omega (arith, goes-below (A .f) (A .m) (A .u .point) leaves)
+    omega (arith, goes-below (entry .args .f) (entry .args .m) (entry .args .u .point) leaves)
 
 add-result : tie.Need-add-result
-add-result c =
-    let test = c .before .before .before in
-    let asked = test .before in
-    let entry = asked .before .before in
-    let A = entry .args in
+add-result c = let test : tie.Else1 = search in let asked : tie.After-goes = search in let entry : tie.Start = search in let A = entry .args in
     let p = entry .pre in
     let leaves = sym (asked .goes .ensures) ∙ not-false _ (test .if1 .left) in
     let latest = p .0 .bounded (A .u .point) (goes-below (A .f) (A .m) (A .u .point) leaves) in
-    omega (arith, origin-row (A .t .now) (A .u .point), latest, c .end-of .ensures, p .1 .offset, p .1 .length)
+    omega (arith, origin-row (A .t .now) (A .u .point), latest)
 
 returns-2 : tie.Need-returns-2
-returns-2 c =
-    let test = c .before .before .before in
-    let asked = test .before in
-    let A = asked .before .before .args in
+returns-2 c = let entry : tie.Start = search in let test : tie.Else1 = search in let asked : tie.After-goes = search in
     let leaves = sym (asked .goes .ensures) ∙ not-false _ (test .if1 .left) in
-    ap (λ (n : ℕ). leb (getD (A .t .now) (A .u .point) 0 + n) (bias + A .clock)) (c .end-of .ensures)
-    ∙ ends-goes (A .t .now) (A .settings) (A .clock) (A .f) (A .m) (A .u) leaves
+    ap (λ (n : ℕ). leb (getD (entry .args .t .now) (entry .args .u .point) 0 + n) (bias + entry .args .clock)) (c .end-of .ensures)
+    ∙ ends-goes (entry .args .t .now) (entry .args .settings) (entry .args .clock) (entry .args .f) (entry .args .m) (entry .args .u) leaves
 
 pub use-ends-spec : {M : Type 1} → statement M
 use-ends-spec =

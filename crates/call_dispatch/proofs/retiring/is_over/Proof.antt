@@ -1,7 +1,7 @@
 -- `is_over` meets its contract: the settings are the first words of the board, and its cells lie behind its frame.
 use Prim.Native.Nat.{ℕ, _+_, _-_}
 use borrow.Author.Needs.{needs}
-use mathlib.Core.Path.{sym, _∙_, ap, ap₂, subst}
+use mathlib.Core.Path.{sym, _∙_, ap₂, subst}
 use mathlib.Core.List.{List}
 use Rattle.spec_plain.specs.declared.Settings.{Settings}
 use Rattle.spec_stn.specs.Table.{entailsAll}
@@ -15,20 +15,12 @@ use Rattle.call_dispatch.proofs.retiring.is_over.Statement.{statement}
 use Rattle.call_dispatch.proofs.retiring.is_over.Tie as tie
 
 are-over-requires : tie.Need-are-over-requires
-are-over-requires c κs =
-    let entry = c .before .before .before .before in
-    let A = entry .args in
-    let P = entry .pre in
-    let W = A .w .now in
+are-over-requires c κs = let entry : tie.Start = search in let A = entry .args in let P = entry .pre in let W = A .w .now in
     let reach = subst (λ (l : List ℕ). InReach l (wordIn W clockAt) 1 (A .m)) (sym (cells-lent W (P .0))) (P .1 .0) in
     (reach, P .1 .1, (search needs), P .1 .2)
 
 returns : tie.Need-returns
-returns c =
-    let read = c .before .before in
-    let entry = read .before .before .before in
-    let A = entry .args in
-    let W = A .w .now in
+returns c = let read : tie.After-settings-in = search in let entry : tie.Start = search in let A = entry .args in let W = A .w .now in
     c .are-over .ensures
     ∙ ap₂ (λ (l : List ℕ) (s : Settings). entailsAll (tableOf l) (ends s (1 + A .m - 1) (wordIn W clockAt) (A .m) (linesRead (wordIn W))))
     (cells-lent W (entry .pre .0)) (read .settings-in .ensures)

@@ -18,55 +18,70 @@ use Rattle.call_dispatch.proofs.retiring.retire_sent.Statement.{stateme
 use Rattle.call_dispatch.proofs.retiring.retire_sent.Tie as tie
 
 points-in-requires : tie.Need-points-in-requires
-points-in-requires c κs =
-    let points = points-asked (c .before .before .args .w .now) (c .before .before .pre .1 .0) in
+points-in-requires c κs = let entry : tie.Start = search in
+    let points = points-asked (entry .args .w .now) (entry .pre .1 .0) in
     (search needs, points .0, points .1)
 
 is-over-requires : tie.Need-is-over-requires
-is-over-requires c κs = let A = c .before .before .before .before .before .before .args in
-    let P = c .before .before .before .before .before .before .pre in
-    let l = leaving-words (A .w .now) (P .0) (P .1 .0) (P .1 .1) _ (c .before .job-at .ensures) in
+is-over-requires c κs = let entry : tie.Start = search in
+    let P = entry .pre in
+    let l = leaving-words (entry .args .w .now) (P .0) (P .1 .0) (P .1 .1) _ (c .before .job-at .ensures) in
     (P .0, (l .0, l .1, l .2))
 
 returns : tie.Need-returns
-returns c = let A = c .before .before .before .before .before .before .before .before .args in
-    let P = c .before .before .before .before .before .before .before .before .pre in
-    let is = c .before .before .before .job-at .ensures in
-    retired-words (A .w .now) (P .0) (P .1 .0) (P .1 .1) _ is _ (ap (λ (j : Job). j .sent) is ∙ P .1 .2) (c .before .is-over .ensures) .0 (not-true _ (c .if1 .taken))
+returns c = let found : tie.After-job-at = search in let entry : tie.Start = search in
+    let P = entry .pre in
+    let is = found .job-at .ensures in
+    let sent = ap (λ (j : Job). j .sent) is ∙ P .1 .2 in
+    retired-words (entry .args .w .now) (P .0) (P .1 .0) (P .1 .1) _ is _ sent (c .before .is-over .ensures) .0 (not-true _ (c .if1 .taken))
 
 cast-drop-points : tie.Need-cast-drop-points
-cast-drop-points c = let A = c .before .before .before .before .before .before .before .before .before .args in
-    let P = c .before .before .before .before .before .before .before .before .before .pre in
-    omega (arith, leaving-words (A .w .now) (P .0) (P .1 .0) (P .1 .1) _ (c .before .before .before .before .job-at .ensures) .3, jobs-sized (A .w .now) (P .1 .0) .points)
+cast-drop-points c = let found : tie.After-job-at = search in let entry : tie.Start = search in
+    let P = entry .pre in
+    let W = entry .args .w .now in
+    omega (arith, leaving-words W (P .0) (P .1 .0) (P .1 .1) _ (found .job-at .ensures) .3, jobs-sized W (P .1 .0) .points)
 
 drop-points-requires : tie.Need-drop-points-requires
-drop-points-requires c κs = let A = c .before .before .before .before .before .before .before .before .before .args in
-    let P = c .before .before .before .before .before .before .before .before .before .pre in
-    let l = leaving-words (A .w .now) (P .0) (P .1 .0) (P .1 .1) _ (c .before .before .before .before .job-at .ensures) .3 in
-    let n = c .before .before .before .before .before .before .points-in .ensures in
-    (length-lent (A .w .now) (P .0), omega (arith, l, n), omega (arith, n, jobs-sized (A .w .now) (P .1 .0) .points))
+drop-points-requires c κs = let found : tie.After-job-at = search in let counted : tie.After-points-in = search in let entry : tie.Start = search in
+    let P = entry .pre in
+    let W = entry .args .w .now in
+    let l = leaving-words W (P .0) (P .1 .0) (P .1 .1) _ (found .job-at .ensures) .3 in
+    let n = counted .points-in .ensures in
+    (length-lent W (P .0), omega (arith, l, n), omega (arith, n, jobs-sized W (P .1 .0) .points))
 
 drop-oldest-requires : tie.Need-drop-oldest-requires
-drop-oldest-requires c κs = let A = c .before .before .before .before .before .before .before .before .before .before .before .before .before .args in
-    let P = c .before .before .before .before .before .before .before .before .before .before .before .before .before .pre in
-    let t = c .before .before .before .drop-points .last .0 in
-    let count = with-word (A .w .now) (P .0) t countAt (omega arith) in
-    (omega arith, omega (arith, count, P .1 .1), omega (arith, count, jobs-sized (A .w .now) (P .1 .0) .count), marks-kept (A .w .now) (P .1 .0) (P .0) t)
+drop-oldest-requires c κs = let dropped : tie.After-drop-points = search in let entry : tie.Start = search in
+    let P = entry .pre in
+    let W = entry .args .w .now in
+    let t = dropped .drop-points .last .0 in
+    let count = with-word W (P .0) t countAt (omega arith) in
+    (omega arith, omega (arith, count, P .1 .1), omega (arith, count, jobs-sized W (P .1 .0) .count), marks-kept W (P .1 .0) (P .0) t)
 
 stay-lines-requires : tie.Need-stay-lines-requires
-stay-lines-requires c κs = let A = c .before .before .before .before .before .before .before .before .before .before .before .before .before .before .before .before .before .args in
-    let P = c .before .before .before .before .before .before .before .before .before .before .before .before .before .before .before .before .before .pre in
-    let t = c .before .before .before .before .before .before .before .drop-points .last .0 in
-    let l = leaving-words (A .w .now) (P .0) (P .1 .0) (P .1 .1) _ (c .before .before .before .before .before .before .before .before .before .before .before .before .job-at .ensures) .3 in
-    let ex = fronted-kept (A .w .now) (P .1 .0) (P .0) t (λ (js : List Job). drop 1 js) _ (c .before .before .before .drop-oldest .ensures) in
-    (search needs, (few-after (A .w .now) (P .1 .0) (P .0) t _ (jobsFrom (drop 1 (jobsOf (heldJobs (wordIn (A .w .now)))))) (c .before .before .before .drop-oldest .last .0) ex, omega (arith, l, jobs-sized (A .w .now) (P .1 .0) .points)))
+stay-lines-requires c κs = let shortened : tie.After-drop-oldest = search in let dropped : tie.After-drop-points = search in
+    let found : tie.After-job-at = search in let entry : tie.Start = search in
+    let P = entry .pre in
+    let W = entry .args .w .now in
+    let t = dropped .drop-points .last .0 in
+    let l = leaving-words W (P .0) (P .1 .0) (P .1 .1) _ (found .job-at .ensures) .3 in
+    let ex = fronted-kept W (P .1 .0) (P .0) t (λ (js : List Job). drop 1 js) _ (shortened .drop-oldest .ensures) in
+    let few = few-after W (P .1 .0) (P .0) t _ (jobsFrom (drop 1 (jobsOf (heldJobs (wordIn W))))) (shortened .drop-oldest .last .0) ex in
+    (search needs, (few, omega (arith, l, jobs-sized W (P .1 .0) .points)))
 
 returns-2 : tie.Need-returns-2
-returns-2 c = let A = c .before .before .before .before .before .before .before .before .before .before .before .before .before .before .before .before .before .before .before .before .args in
-    let P = c .before .before .before .before .before .before .before .before .before .before .before .before .before .before .before .before .before .before .before .before .pre in
-    let t = c .before .before .before .before .before .before .before .before .before .before .drop-points .last .0 in
-    let is = c .before .before .before .before .before .before .before .before .before .before .before .before .before .before .before .job-at .ensures in
-    retired-words (A .w .now) (P .0) (P .1 .0) (P .1 .1) _ is _ (ap (λ (j : Job). j .sent) is ∙ P .1 .2) (c .before .before .before .before .before .before .before .before .before .before .before .before .before .is-over .ensures) .1 _ t (c .before .before .before .before .before .before .drop-oldest .last .0) _ (not-false _ (c .before .before .before .before .before .before .before .before .before .before .before .before .if1 .left)) (add-one _ ∙ ap suc (c .before .before .before .before .before .before .before .before .before .before .before .before .before .before .before .before .before .points-in .ensures)) (c .before .before .before .before .before .before .before .before .before .before .drop-points .ensures) (omega arith) (fronted-kept (A .w .now) (P .1 .0) (P .0) t (λ (js : List Job). drop 1 js) _ (c .before .before .before .before .before .before .drop-oldest .ensures)) (c .before .before .stay-lines .ensures)
+returns-2 c = let shortened : tie.After-drop-oldest = search in let written : tie.After-w = search in let dropped : tie.After-drop-points = search in
+    let tested : tie.Else1 = search in let asked : tie.After-is-over = search in let found : tie.After-job-at = search in
+    let counted : tie.After-points-in = search in let entry : tie.Start = search in
+    let P = entry .pre in
+    let W = entry .args .w .now in
+    let t = dropped .drop-points .last .0 in
+    let is = found .job-at .ensures in
+    let sent = ap (λ (j : Job). j .sent) is ∙ P .1 .2 in
+    let n = add-one _ ∙ ap suc (counted .points-in .ensures) in
+    let ex = fronted-kept W (P .1 .0) (P .0) t (λ (js : List Job). drop 1 js) _ (shortened .drop-oldest .ensures) in
+    retired-words W (P .0) (P .1 .0) (P .1 .1) _ is _ sent (asked .is-over .ensures) .1
+    _ t (shortened .drop-oldest .last .0) _ (not-false _ (tested .if1 .left)) n (dropped .drop-points .ensures)
+    (omega (arith, P .0, written .w .given)) ex (c .before .before .stay-lines .ensures)
 
 pub retire-sent-spec : {M : Type 1} → statement M
 retire-sent-spec =

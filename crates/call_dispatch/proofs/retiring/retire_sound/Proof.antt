@@ -12,16 +12,16 @@ use Rattle.call_dispatch.proofs.retiring.retire_sound.Statement.{statem
 use Rattle.call_dispatch.proofs.retiring.retire_sound.Tie as tie
 
 returns : tie.Need-returns
-returns c = let entry = c .before .before .before in
+returns c = let entry : tie.Start = search in
     unanswered (entry .args .w .now) _ _ (plain 21) (none-there (boardIn (entry .args .w .now)) (entry .pre .1) (c .if1 .taken))
 
 returns-2 : tie.Need-returns-2
-returns-2 c = let entry = c .before .before .before .before .before .before .before in
+returns-2 c = let entry : tie.Start = search in
     unsent-words (entry .args .w .now) (entry .pre .0) (entry .pre .1) (omega arith) _ (c .before .before .job-at .ensures) (not-true _ (c .if2 .taken))
 
 retire-sent-requires : tie.Need-retire-sent-requires
-retire-sent-requires c κs = let entry = c .before .before .before .before .before .before .before .before in
-    let marked = sym (ap (λ (j : Job). j .sent) (c .before .before .before .job-at .ensures)) ∙ not-false _ (c .before .if2 .left) in
+retire-sent-requires c κs = let found : tie.After-job-at = search in let entry : tie.Start = search in
+    let marked = sym (ap (λ (j : Job). j .sent) (found .job-at .ensures)) ∙ not-false _ (c .before .if2 .left) in
     (entry .pre .0, (entry .pre .1, omega arith, marked))
 
 pub retire-sound-spec : {M : Type 1} → statement M

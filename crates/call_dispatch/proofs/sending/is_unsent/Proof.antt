@@ -14,19 +14,17 @@ use Rattle.call_dispatch.proofs.sending.is_unsent.Statement.{statement}
 use Rattle.call_dispatch.proofs.sending.is_unsent.Tie as tie
 
 returns : tie.Need-returns
-returns c =
-    let A = c .before .before .before .args in
-    let w = wordIn (A .w .now) in
+returns c = let entry : tie.Start = search in
+    let w = wordIn (entry .args .w .now) in
     let held : length (jobsOf (heldJobs w)) ≡ w countAt = held-jobs w (omega arith) in
-    unsent-past (jobsOf (heldJobs w)) (A .k) (omega (arith, held))
+    unsent-past (jobsOf (heldJobs w)) (entry .args .k) (omega (arith, held))
 
 returns-2 : tie.Need-returns-2
-returns-2 c =
-    let A = c .before .before .before .before .before .args in
-    let w = wordIn (A .w .now) in
+returns-2 c = let entry : tie.Start = search in
+    let w = wordIn (entry .args .w .now) in
     let held : length (jobsOf (heldJobs w)) ≡ w countAt = held-jobs w (omega arith) in
-    let there = held-job w (omega arith) (A .k) (omega arith) in
-    ap (λ (j : Job). not (j .sent)) (c .before .job-at .ensures ∙ sym there) ∙ unsent-at (jobsOf (heldJobs w)) (A .k) (omega (arith, held))
+    let there = held-job w (omega arith) (entry .args .k) (omega arith) in
+    ap (λ (j : Job). not (j .sent)) (c .before .job-at .ensures ∙ sym there) ∙ unsent-at (jobsOf (heldJobs w)) (entry .args .k) (omega (arith, held))
 
 pub is-unsent-spec : {M : Type 1} → statement M
 is-unsent-spec = tie.close (tie.spec (λ c. search needs) (λ c. search needs) returns (λ c κs. search needs) returns-2)

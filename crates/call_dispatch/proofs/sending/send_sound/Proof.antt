@@ -10,22 +10,22 @@ use Rattle.call_dispatch.proofs.sending.send_sound.Statement.{statement
 use Rattle.call_dispatch.proofs.sending.send_sound.Tie as tie
 
 is-unsent-requires : tie.Need-is-unsent-requires
-is-unsent-requires c κs = let entry = c .before .before in
+is-unsent-requires c κs = let entry : tie.Start = search in
     (search needs, jobs-sized (entry .args .w .now) (entry .pre .1) .count)
 
 returns : tie.Need-returns
-returns c = let entry = c .before .before .before .before in
+returns c = let entry : tie.Start = search in
     unanswered (entry .args .w .now) _ _ (plain 18)
     (absent (boardIn (entry .args .w .now)) (entry .args .place) (entry .pre .1) (sym (c .before .is-unsent .ensures) ∙ not-true _ (c .if1 .taken)))
 
 send-up-to-requires : tie.Need-send-up-to-requires
-send-up-to-requires c κs = let entry = c .before .before .before .before .before in
+send-up-to-requires c κs = let entry : tie.Start = search in
     (entry .pre .0, (entry .pre .1, (sym (c .before .before .is-unsent .ensures) ∙ not-false _ (c .before .if1 .left))))
 
 returns-2 : tie.Need-returns-2
-returns-2 c = let entry = c .before .before .before .before .before .before .before .before in
+returns-2 c = let tested : tie.Else1 = search in let asked : tie.After-is-unsent = search in let entry : tie.Start = search in
     let w = entry .args .w .now in
-    let unsent = sym (c .before .before .before .before .before .is-unsent .ensures) ∙ not-false _ (c .before .before .before .before .if1 .left) in
+    let unsent = sym (asked .is-unsent .ensures) ∙ not-false _ (tested .if1 .left) in
     accepted-words w _ _ (accepted w (entry .pre .0) (entry .pre .1) (entry .args .place) unsent) (c .before .before .send-up-to .ensures)
 
 pub send-sound-spec : {M : Type 1} → statement M

@@ -20,43 +20,59 @@ use Rattle.call_dispatch.proofs.sending.send_up_to.Statement.{statement
 use Rattle.call_dispatch.proofs.sending.send_up_to.Tie as tie
 
 add-count : tie.Need-add-count
-add-count c = let A = c .before .args in
-    let P = c .before .pre in
-    omega (arith, unsent-place (A .w .now) (P .0) (P .1 .0) (A .place) (P .1 .1), jobs-sized (A .w .now) (P .1 .0) .count)
+add-count c = let entry : tie.Start = search in
+    let P = entry .pre in
+    let W = entry .args .w .now in
+    omega (arith, unsent-place W (P .0) (P .1 .0) (entry .args .place) (P .1 .1), jobs-sized W (P .1 .0) .count)
 
 points-in-requires : tie.Need-points-in-requires
-points-in-requires c κs =
-    let points = points-asked (c .before .before .args .w .now) (c .before .before .pre .1 .0) in
+points-in-requires c κs = let entry : tie.Start = search in
+    let points = points-asked (entry .args .w .now) (entry .pre .1 .0) in
     (search needs, points .0, points .1)
 
 freeze-requires : tie.Need-freeze-requires
-freeze-requires c κs = let A = c .before .before .before .before .before .before .args in
-    let P = c .before .before .before .before .before .before .pre in
-    let n = add-one _ ∙ ap suc (c .before .before .before .points-in .ensures) in
+freeze-requires c κs = let counted : tie.After-points-in = search in let entry : tie.Start = search in
+    let P = entry .pre in
+    let W = entry .args .w .now in
+    let place = entry .args .place in
+    let n = add-one _ ∙ ap suc (counted .points-in .ensures) in
     let is = c .before .read-jobs .ensures in
-    ((length-lent (A .w .now) (P .0), n ∙ ap (λ (j : Jobs). suc (total (jobsOf j))) (sym is), closed-lent (A .w .now) (P .1 .0) (P .0) _ n), (subst Sized (sym is) (jobs-sized (A .w .now) (P .1 .0)), subst (λ (j : Jobs). A .place + 1 ≤ j .count) (sym is) (unsent-place (A .w .now) (P .0) (P .1 .0) (A .place) (P .1 .1))))
+    let points = n ∙ ap (λ (j : Jobs). suc (total (jobsOf j))) (sym is) in
+    let there = subst (λ (j : Jobs). place + 1 ≤ j .count) (sym is) (unsent-place W (P .0) (P .1 .0) place (P .1 .1)) in
+    ((length-lent W (P .0), points, closed-lent W (P .1 .0) (P .0) _ n), (subst Sized (sym is) (jobs-sized W (P .1 .0)), there))
 
 mark-sent-requires : tie.Need-mark-sent-requires
-mark-sent-requires c κs = let A = c .before .before .before .before .before .before .before .before .before .before .args in
-    let P = c .before .before .before .before .before .before .before .before .before .before .pre in
-    let t = c .before .before .before .freeze .last .0 in
-    let count = with-word (A .w .now) (P .0) t countAt (omega arith) in
-    (omega arith, omega (arith, count, unsent-place (A .w .now) (P .0) (P .1 .0) (A .place) (P .1 .1)), omega (arith, count, jobs-sized (A .w .now) (P .1 .0) .count), marks-kept (A .w .now) (P .1 .0) (P .0) t)
+mark-sent-requires c κs = let froze : tie.After-freeze = search in let entry : tie.Start = search in
+    let P = entry .pre in
+    let W = entry .args .w .now in
+    let t = froze .freeze .last .0 in
+    let count = with-word W (P .0) t countAt (omega arith) in
+    let there = unsent-place W (P .0) (P .1 .0) (entry .args .place) (P .1 .1) in
+    (omega arith, omega (arith, count, there), omega (arith, count, jobs-sized W (P .1 .0) .count), marks-kept W (P .1 .0) (P .0) t)
 
 tidy-lines-requires : tie.Need-tidy-lines-requires
-tidy-lines-requires c κs = let A = c .before .before .before .before .before .before .before .before .before .before .before .before .before .before .args in
-    let P = c .before .before .before .before .before .before .before .before .before .before .before .before .before .before .pre in
-    let t = c .before .before .before .before .before .before .before .freeze .last .0 in
-    let ex = fronted-kept (A .w .now) (P .1 .0) (P .0) t (λ (js : List Job). sentUpTo (A .place + 1) js) _ (c .before .before .before .mark-sent .ensures) in
-    (search needs, few-after (A .w .now) (P .1 .0) (P .0) t _ (jobsFrom (sentUpTo (A .place + 1) (jobsOf (heldJobs (wordIn (A .w .now)))))) (c .before .before .before .mark-sent .last .0) ex)
+tidy-lines-requires c κs = let marked : tie.After-mark-sent = search in let froze : tie.After-freeze = search in let entry : tie.Start = search in
+    let P = entry .pre in
+    let W = entry .args .w .now in
+    let t = froze .freeze .last .0 in
+    let sent = sentUpTo (entry .args .place + 1) in
+    let ex = fronted-kept W (P .1 .0) (P .0) t (λ (js : List Job). sent js) _ (marked .mark-sent .ensures) in
+    (search needs, few-after W (P .1 .0) (P .0) t _ (jobsFrom (sent (jobsOf (heldJobs (wordIn W))))) (marked .mark-sent .last .0) ex)
 
 returns : tie.Need-returns
-returns c = let A = c .before .before .before .before .before .before .before .before .before .before .before .before .before .before .before .before .before .args in
-    let P = c .before .before .before .before .before .before .before .before .before .before .before .before .before .before .before .before .before .pre in
-    let t = c .before .before .before .before .before .before .before .before .before .before .freeze .last .0 in
-    let n = add-one _ ∙ ap suc (c .before .before .before .before .before .before .before .before .before .before .before .before .before .before .points-in .ensures) in
-    let et = c .before .before .before .before .before .before .before .before .before .before .freeze .ensures ∙ ap (λ (j : Jobs). frozen (c .before .before .before .before .before .before .before .before .before .before .before .before .before .before .points-in .result + 1) (unsentPoints 1 (A .place + 1) (jobsOf j)) (lentTable (A .w .now))) (c .before .before .before .before .before .before .before .before .before .before .before .before .read-jobs .ensures) in
-    sent-words (A .w .now) (P .0) (P .1 .0) (A .place) (P .1 .1) _ t (c .before .before .before .before .before .before .mark-sent .last .0) _ n et (omega arith) (fronted-kept (A .w .now) (P .1 .0) (P .0) t (λ (js : List Job). sentUpTo (A .place + 1) js) _ (c .before .before .before .before .before .before .mark-sent .ensures)) (c .before .before .tidy-lines .ensures)
+returns c = let marked : tie.After-mark-sent = search in let froze : tie.After-freeze = search in let read : tie.After-read-jobs = search in
+    let counted : tie.After-points-in = search in let entry : tie.Start = search in
+    let P = entry .pre in
+    let W = entry .args .w .now in
+    let place = entry .args .place in
+    let t = froze .freeze .last .0 in
+    let n = add-one _ ∙ ap suc (counted .points-in .ensures) in
+    let points = counted .points-in .result + 1 in
+    let et =
+    froze .freeze .ensures
+    ∙ ap (λ (j : Jobs). frozen points (unsentPoints 1 (place + 1) (jobsOf j)) (lentTable W)) (read .read-jobs .ensures) in
+    let ex = fronted-kept W (P .1 .0) (P .0) t (λ (js : List Job). sentUpTo (place + 1) js) _ (marked .mark-sent .ensures) in
+    sent-words W (P .0) (P .1 .0) place (P .1 .1) _ t (marked .mark-sent .last .0) _ n et (omega arith) ex (c .before .before .tidy-lines .ensures)
 
 pub send-up-to-spec : {M : Type 1} → statement M
 send-up-to-spec =

@@ -8,15 +8,9 @@ use Rattle.log_chart.proofs.rows.put_line.Statement.{statement}
 use Rattle.log_chart.proofs.rows.put_line.Tie as tie
 
 put-marks-requires : tie.Need-put-marks-requires
-put-marks-requires c κs =
-    let begun = c .before .before .before in
-    let number = begun .before .before .before .before in
-    let name = number .before .before .before .before in
-    let test = name .before .before .before in
-    let start = test .before .before in
-    let entry = start .before .before .before .before in
+put-marks-requires c κs = let start : tie.After-line-start = search in let entry : tie.Start = search in
     let is = start .line-start .ensures in
-    (entry .pre .0, (omega (arith, is, entry .pre .0 .1, entry .pre .1 .0), subst (OnTable (wordIn (entry .args .w .now))) (sym is) (entry .pre .1 .1)))
+    (entry .pre .0, (omega (arith, is), subst (OnTable (wordIn (entry .args .w .now))) (sym is) (entry .pre .1 .1)))
 
 pub put-line-spec : {M : Type 1} → statement M
 put-line-spec =

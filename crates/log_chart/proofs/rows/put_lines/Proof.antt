@@ -17,8 +17,7 @@ loop-holds : tie.Need-loop-holds Inv-loop μ-loop
 loop-holds c = (omega arith, refl)
 
 put-line-requires : tie.Need-put-line-requires Inv-loop μ-loop
-put-line-requires c κs =
-    let entry = c .before .before .before .before .before .before in
+put-line-requires c κs = let entry : tie.Start Inv-loop μ-loop = search in
     ((entry .pre .0, entry .pre .1, entry .pre .2, entry .pre .4), (omega arith, entry .pre .3 (c .before .before .loop .k) (omega arith)))
 
 loop-again : tie.Need-loop-again Inv-loop μ-loop

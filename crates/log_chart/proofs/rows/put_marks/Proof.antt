@@ -13,20 +13,19 @@ abbrev μ-loop : tie.MeasureT-loop
 μ-loop out₀ at t w line scale n to₀ k₀ out to k = n - k
 
 last-end-requires : tie.Need-last-end-requires Inv-loop μ-loop
-last-end-requires c κs = let entry = c .before .before .before in (entry .pre .0 .0, entry .pre .1 .0, entry .pre .1 .1)
+last-end-requires c κs = let entry : tie.Start Inv-loop μ-loop = search in (entry .pre .0 .0, entry .pre .1 .0, entry .pre .1 .1)
 
 columns-to-requires : tie.Need-columns-to-requires Inv-loop μ-loop
-columns-to-requires c κs = c .before .before .before .before .pre .0 .3
+columns-to-requires c κs = let entry : tie.Start Inv-loop μ-loop = search in entry .pre .0 .3
 
 loop-holds : tie.Need-loop-holds Inv-loop μ-loop
 loop-holds c = (omega arith, omega arith, refl)
 
 time-of-requires : tie.Need-time-of-requires Inv-loop μ-loop
-time-of-requires c κs = (c .before .before .before .before .before .before .before .pre .0 .3, omega arith)
+time-of-requires c κs = let entry : tie.Start Inv-loop μ-loop = search in (entry .pre .0 .3, omega arith)
 
 mark-at-requires : tie.Need-mark-at-requires Inv-loop μ-loop
-mark-at-requires c κs =
-    let entry = c .before .before .before .before .before .before .before .before .before in
+mark-at-requires c κs = let entry : tie.Start Inv-loop μ-loop = search in
     ((entry .pre .0 .0, entry .pre .0 .1, entry .pre .0 .2), entry .pre .1)
 
 loop-again : tie.Need-loop-again Inv-loop μ-loop

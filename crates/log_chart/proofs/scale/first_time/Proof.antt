@@ -20,10 +20,13 @@ unfolding firstTime
 loop-holds c = (omega arith, refl, omega arith)
 
 loop-again : tie.Need-loop-again Inv-loop μ-loop
-loop-again c = (omega arith, c .smaller .ensures ∙ first-next _ _ _ _ _ (c .before .wide .ensures ∙ c .before .before .earliest .ensures) (c .before .before .before .before .loop .inv .1), omega arith)
+loop-again c = let at-loop : tie.At-loop Inv-loop μ-loop = search in
+    let read = c .before .wide .ensures ∙ c .before .before .earliest .ensures in
+    (omega arith, c .smaller .ensures ∙ first-next _ _ _ _ _ read (at-loop .loop .inv .1), omega arith)
 
 returns : tie.Need-returns Inv-loop μ-loop
-returns c = let e : c .before .loop .k ≡ c .before .before .before .args .n = omega arith in
+returns c = let entry : tie.Start Inv-loop μ-loop = search in
+    let e : c .before .loop .k ≡ entry .args .n = omega arith in
     (rw e at (c .before .loop .inv .1), c .before .loop .inv .2)
 
 pub first-time-spec : {M : Type 1} → statement M

@@ -25,25 +25,21 @@ loop-holds : tie.Need-loop-holds Inv-loop μ-loop
 loop-holds c = (omega arith, refl)
 
 use-at-requires : tie.Need-use-at-requires Inv-loop μ-loop
-use-at-requires c κs =
-    let turn = c .before in
-    let entry = turn .before .before .before .before in
-    (entry .pre .1, omega (arith, entry .pre .2 .count))
+use-at-requires c κs = let entry : tie.Start Inv-loop μ-loop = search in (entry .pre .1, omega arith)
 
 end-requires : tie.Need-end-requires Inv-loop μ-loop
 end-requires c κs =
     let inside = c .before in
-    let turn = inside .before in
-    let entry = turn .before .before .before .before in
+    let entry : tie.Start Inv-loop μ-loop = search in
     (entry .pre .0, use-low (entry .pre .2) (inside .loop-test .taken) (c .use-at .ensures))
 
 loop-again : tie.Need-loop-again Inv-loop μ-loop
 loop-again c =
     let ends = c .before in
-    let read = ends .before in
-    let inside = read .before in
-    let turn = inside .before in
-    let entry = turn .before .before .before .before in
+    let read : tie.After-use-at Inv-loop μ-loop = search in
+    let inside : tie.In-loop Inv-loop μ-loop = search in
+    let turn : tie.At-loop Inv-loop μ-loop = search in
+    let entry : tie.Start Inv-loop μ-loop = search in
     let L = turn .loop in
     let f = wordIn (entry .args .w .now) in
     let line = lineOf (lineRead f (entry .args .at)) in
@@ -54,7 +50,7 @@ loop-again c =
 returns : tie.Need-returns Inv-loop μ-loop
 returns c =
     let turn = c .before in
-    let entry = turn .before .before .before .before in
+    let entry : tie.Start Inv-loop μ-loop = search in
     let L = turn .loop in
     let f = wordIn (entry .args .w .now) in
     let line = lineOf (lineRead f (entry .args .at)) in

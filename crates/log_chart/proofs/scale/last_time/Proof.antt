@@ -20,10 +20,12 @@ unfolding lastTime
 loop-holds c = (omega arith, refl)
 
 loop-again : tie.Need-loop-again Inv-loop μ-loop
-loop-again c = (omega arith, c .larger .ensures ∙ last-next _ _ _ _ _ (c .before .wide .ensures ∙ c .before .before .earliest .ensures) (c .before .before .before .before .loop .inv .1))
+loop-again c = let at-loop : tie.At-loop Inv-loop μ-loop = search in
+    (omega arith, c .larger .ensures ∙ last-next _ _ _ _ _ (c .before .wide .ensures ∙ c .before .before .earliest .ensures) (at-loop .loop .inv .1))
 
 returns : tie.Need-returns Inv-loop μ-loop
-returns c = let e : c .before .loop .k ≡ c .before .before .before .args .n = omega arith in
+returns c = let entry : tie.Start Inv-loop μ-loop = search in
+    let e : c .before .loop .k ≡ entry .args .n = omega arith in
     rw e at (c .before .loop .inv .1)
 
 pub last-time-spec : {M : Type 1} → statement M

@@ -27,17 +27,15 @@ loop-holds c = (omega arith, refl)
 
 last-end-requires : tie.Need-last-end-requires Inv-loop μ-loop
 last-end-requires c κs =
-    let turn = c .before .before in
-    let entry = turn .before .before .before in
-    let is = c .line-start .ensures in
+    let turn : tie.At-loop Inv-loop μ-loop = search in let entry : tie.Start Inv-loop μ-loop = search in let is = c .line-start .ensures in
     let on = subst (OnTable (wordIn (entry .args .w .now))) (sym is) (entry .pre .2 (turn .loop .k) (omega arith)) in
     (entry .pre .0, omega (arith, is), on)
 
 loop-again : tie.Need-loop-again Inv-loop μ-loop
 loop-again c =
     let start = c .before in
-    let turn = start .before .before in
-    let entry = turn .before .before .before in
+    let turn : tie.At-loop Inv-loop μ-loop = search in
+    let entry : tie.Start Inv-loop μ-loop = search in
     let L = turn .loop in
     let w = wordIn (entry .args .w .now) in
     let is = ap (lineRead w) (start .line-start .ensures) ∙ sym (line-of w (L .k) (omega arith)) in
@@ -48,7 +46,7 @@ loop-again c =
 returns : tie.Need-returns Inv-loop μ-loop
 returns c =
     let turn = c .before in
-    let entry = turn .before .before .before in
+    let entry : tie.Start Inv-loop μ-loop = search in
     let L = turn .loop in
     let w = wordIn (entry .args .w .now) in
     lines-done _ (linesRead w) (entry .args .time) (L .k) (L .last) (L .inv .1) (omega (arith, build-length (lineAt w) resources))

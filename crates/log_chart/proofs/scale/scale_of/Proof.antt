@@ -6,9 +6,11 @@ use Rattle.log_chart.proofs.scale.scale_of.Statement.{statement}
 use Rattle.log_chart.proofs.scale.scale_of.Tie as tie
 
 returns : tie.Need-returns
-returns c = let width = c .before .width-of .ensures in
+returns c = let last-read : tie.After-last-time = search in let first-read : tie.After-first-time = search in let widened : tie.After-wide = search in
+    let width = c .before .width-of .ensures in
     let begin = c .begin-of .ensures in (
-      scale-is _ _ _ _ _ _ _ _ _ _ (c .before .before .before .before .before .wide .ensures) (c .before .before .before .before .first-time .ensures .0) (c .before .before .before .last-time .ensures) (c .before .before .lines-end .ensures) (width .0) (begin .0),
+      scale-is _ _ _ _ _ _ _ _ _ _ (widened .wide .ensures) (first-read .first-time .ensures .0) (last-read .last-time .ensures)
+          (c .before .before .lines-end .ensures) (width .0) (begin .0),
       record { begin = omega arith; some = width .1; column = width .2 },
     )
 

@@ -19,13 +19,14 @@ loop-holds : tie.Need-loop-holds Inv-loop μ-loop
 loop-holds c = (omega arith, refl)
 
 returns : tie.Need-returns Inv-loop μ-loop
-returns c = let w = c .before .before .nth-width .ensures in
-    let k = c .before .before .before .before .loop .k in
-    (width-fits _ _ k (c .before .before .before .before .loop .inv .1) _ (omega arith) (w .0) (sym (c .before .is-fit .ensures) ∙ c .if1 .taken), w .1, w .2)
+returns c = let at-loop : tie.At-loop Inv-loop μ-loop = search in
+    let w = c .before .before .nth-width .ensures in
+    (width-fits _ _ (at-loop .loop .k) (at-loop .loop .inv .1) _ (omega arith) (w .0) (sym (c .before .is-fit .ensures) ∙ c .if1 .taken), w .1, w .2)
 
 loop-again : tie.Need-loop-again Inv-loop μ-loop
-loop-again c = let k = c .before .before .before .before .loop .k in
-    (omega arith, width-next _ _ k (c .before .before .before .before .loop .inv .1) _ (omega arith) (c .before .before .nth-width .ensures .0) (sym (c .before .is-fit .ensures) ∙ c .if1 .left))
+loop-again c = let at-loop : tie.At-loop Inv-loop μ-loop = search in let k = at-loop .loop .k in
+    let narrow = sym (c .before .is-fit .ensures) ∙ c .if1 .left in
+    (omega arith, width-next _ _ k (at-loop .loop .inv .1) _ (omega arith) (c .before .before .nth-width .ensures .0) narrow)
 
 returns-2 : tie.Need-returns-2 Inv-loop μ-loop
 returns-2 c = (width-done _ _ (c .before .loop .k) (c .before .loop .inv .1) (omega arith), omega arith, omega arith)

@@ -25,27 +25,21 @@ loop-holds : tie.Need-loop-holds Inv-loop μ-loop
 loop-holds c = (omega arith, omega arith)
 
 returns : tie.Need-returns Inv-loop μ-loop
-returns c =
-    let turn = c .before .before .before .before in
-    let entry = turn .before .before .before in
-    let L = turn .loop in
-    let read = c .before .before in
-    let next = job-next (wordIn (entry .args .w .now)) (entry .pre .1) (L .place) _ (read .before .loop-test .taken) (read .job-at .ensures) in
+returns c = let in-turn : tie.In-loop Inv-loop μ-loop = search in let turn : tie.At-loop Inv-loop μ-loop = search in
+    let entry : tie.Start Inv-loop μ-loop = search in let L = turn .loop in let read : tie.After-job-at Inv-loop μ-loop = search in
+    let next = job-next (wordIn (entry .args .w .now)) (entry .pre .1) (L .place) _ (in-turn .loop-test .taken) (read .job-at .ensures) in
     (job-here _ _ _ _ (L .inv .1) _ _ next (c .if1 .taken), omega arith)
 
 loop-again : tie.Need-loop-again Inv-loop μ-loop
-loop-again c =
-    let turn = c .before .before .before .before .before in
-    let entry = turn .before .before .before in
-    let L = turn .loop in
-    let read = c .before .before .before in
-    let next = job-next (wordIn (entry .args .w .now)) (entry .pre .1) (L .place) _ (read .before .loop-test .taken) (read .job-at .ensures) in
+loop-again c = let in-turn : tie.In-loop Inv-loop μ-loop = search in let turn : tie.At-loop Inv-loop μ-loop = search in
+    let entry : tie.Start Inv-loop μ-loop = search in let L = turn .loop in let read : tie.After-job-at Inv-loop μ-loop = search in
+    let next = job-next (wordIn (entry .args .w .now)) (entry .pre .1) (L .place) _ (in-turn .loop-test .taken) (read .job-at .ensures) in
     (omega arith, job-on _ _ _ _ (L .inv .1) _ next (c .before .if1 .left))
 
 returns-2 : tie.Need-returns-2 Inv-loop μ-loop
 returns-2 c =
     let turn = c .before in
-    let entry = turn .before .before .before in
+    let entry : tie.Start Inv-loop μ-loop = search in
     let L = turn .loop in
     let same : L .place ≡ wordIn (entry .args .w .now) countAt = omega arith in
     (sym same ∙ job-end _ _ _ _ (L .inv .1) (job-over (wordIn (entry .args .w .now)) (entry .pre .1) (L .place) (omega arith)), omega arith)

@@ -26,24 +26,20 @@ loop-holds : tie.Need-loop-holds Inv-loop μ-loop
 loop-holds c = (omega arith, refl)
 
 use-at-requires : tie.Need-use-at-requires Inv-loop μ-loop
-use-at-requires c κs =
-    let turn = c .before in
-    let entry = turn .before .before .before .before in
-    (entry .pre .1 .0, omega (arith, entry .pre .1 .1 .count))
+use-at-requires c κs = let entry : tie.Start Inv-loop μ-loop = search in (entry .pre .1 .0, omega arith)
 
 mark-over-requires : tie.Need-mark-over-requires Inv-loop μ-loop
 mark-over-requires c κs =
     let inside = c .before in
-    let turn = inside .before in
-    let entry = turn .before .before .before .before in
+    let entry : tie.Start Inv-loop μ-loop = search in
     (entry .pre .0 .0, use-low (entry .pre .1 .1) (inside .loop-test .taken) (c .use-at .ensures), entry .pre .0 .1, entry .pre .0 .2)
 
 loop-again : tie.Need-loop-again Inv-loop μ-loop
 loop-again c =
     let read = c .before in
-    let inside = read .before in
-    let turn = inside .before in
-    let entry = turn .before .before .before .before in
+    let inside : tie.In-loop Inv-loop μ-loop = search in
+    let turn : tie.At-loop Inv-loop μ-loop = search in
+    let entry : tie.Start Inv-loop μ-loop = search in
     let L = turn .loop in
     let A = entry .args in
     let f = wordIn (A .w .now) in
@@ -53,7 +49,7 @@ loop-again c =
 returns : tie.Need-returns Inv-loop μ-loop
 returns c =
     let turn = c .before in
-    let entry = turn .before .before .before .before in
+    let entry : tie.Start Inv-loop μ-loop = search in
     let L = turn .loop in
     let A = entry .args in
     let f = wordIn (A .w .now) in

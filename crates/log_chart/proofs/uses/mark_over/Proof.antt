@@ -7,7 +7,8 @@ use Rattle.log_chart.proofs.uses.mark_over.Statement.{statement}
 use Rattle.log_chart.proofs.uses.mark_over.Tie as tie
 
 returns : tie.Need-returns
-returns c = mark-over _ _ _ _ (sym (c .before .before .before .is-covering .ensures) ∙ c .before .before .if1 .taken) (c .glyph .ensures ∙ ap glyphOf (c .before .job-of .ensures .0))
+returns c = let asked : tie.After-is-covering = search in
+    mark-over _ _ _ _ (sym (asked .is-covering .ensures) ∙ c .before .before .if1 .taken) (c .glyph .ensures ∙ ap glyphOf (c .before .job-of .ensures .0))
 
 returns-2 : tie.Need-returns-2
 returns-2 c = mark-left _ _ _ (sym (c .before .is-covering .ensures) ∙ c .if1 .left)

@@ -22,44 +22,30 @@ abbrev μ-loop : tie.MeasureT-loop
 loop-holds : tie.Need-loop-holds Inv-loop μ-loop
 loop-holds c = (omega arith, omega arith, refl, refl)
 
-job-at-requires : tie.Need-job-at-requires Inv-loop μ-loop
-job-at-requires c κs =
-    let turn = c .before in
-    let entry = turn .before .before .before .before .before .before .before .before .before .before .before .before in
-    omega (arith, entry .pre .1 .0 .count)
-
 put-job-requires : tie.Need-put-job-requires Inv-loop μ-loop
 unfolding total
-put-job-requires c κs =
-    let turn = c .before .before .before in
-    let entry = turn .before .before .before .before .before .before .before .before .before .before .before .before in
-    let L = turn .loop in
+put-job-requires c κs = let in-turn : tie.In-loop Inv-loop μ-loop = search in let turn : tie.At-loop Inv-loop μ-loop = search in
+    let entry : tie.Start Inv-loop μ-loop = search in let L = turn .loop in
     let w = wordIn (entry .args .w .now) in
     let few = entry .pre .1 .0 .count in
     let read = c .before in
-    let next = ap total (job-next w few (L .k) _ (read .before .loop-test .taken) (read .job-at .ensures)) in
-    let some = job-some w few (entry .pre .1 .1) (L .k) _ (read .before .loop-test .taken) (read .job-at .ensures) in
-    (entry .pre .0 .0, omega (arith, few), some, omega (arith, next, entry .pre .1 .0 .points), L .inv .1)
+    let next = ap total (job-next w few (L .k) _ (in-turn .loop-test .taken) (read .job-at .ensures)) in
+    let some = job-some w few (entry .pre .1 .1) (L .k) _ (in-turn .loop-test .taken) (read .job-at .ensures) in
+    (entry .pre .0 .0, omega (arith, few), some, omega (arith, next), L .inv .1)
 
 add-x : tie.Need-add-x Inv-loop μ-loop
 unfolding total
-add-x c =
-    let turn = c .before .before .before .before .before .before .before in
-    let entry = turn .before .before .before .before .before .before .before .before .before .before .before .before in
-    let L = turn .loop in
-    let read = c .before .before .before .before .before in
-    let job = job-next (wordIn (entry .args .w .now)) (entry .pre .1 .0 .count) (L .k) _ (read .before .loop-test .taken) (read .job-at .ensures) in
+add-x c = let in-turn : tie.In-loop Inv-loop μ-loop = search in let turn : tie.At-loop Inv-loop μ-loop = search in
+    let entry : tie.Start Inv-loop μ-loop = search in let L = turn .loop in let read : tie.After-job-at Inv-loop μ-loop = search in
+    let job = job-next (wordIn (entry .args .w .now)) (entry .pre .1 .0 .count) (L .k) _ (in-turn .loop-test .taken) (read .job-at .ensures) in
     let next = ap total job in
-    omega (arith, next, entry .pre .1 .0 .points)
+    omega (arith, next)
 
 loop-again : tie.Need-loop-again Inv-loop μ-loop
 unfolding total
-loop-again c =
-    let turn = c .before .before .before .before .before .before .before in
-    let entry = turn .before .before .before .before .before .before .before .before .before .before .before .before in
-    let L = turn .loop in
-    let read = c .before .before .before .before .before in
-    let job = job-next (wordIn (entry .args .w .now)) (entry .pre .1 .0 .count) (L .k) _ (read .before .loop-test .taken) (read .job-at .ensures) in
+loop-again c = let in-turn : tie.In-loop Inv-loop μ-loop = search in let turn : tie.At-loop Inv-loop μ-loop = search in
+    let entry : tie.Start Inv-loop μ-loop = search in let L = turn .loop in let read : tie.After-job-at Inv-loop μ-loop = search in
+    let job = job-next (wordIn (entry .args .w .now)) (entry .pre .1 .0 .count) (L .k) _ (in-turn .loop-test .taken) (read .job-at .ensures) in
     let next = ap total job in
     (omega arith, L .inv .1, omega arith, omega (arith, next))
 
@@ -68,4 +54,4 @@ put-windows-spec =
     tie.close
     (tie.spec
     Inv-loop μ-loop (λ c. omega arith) (λ c. omega arith) (λ c. omega arith) (λ c κs. tt) (λ c. omega arith) (λ c κs. tt) loop-holds
-    job-at-requires put-job-requires (λ c. omega arith) add-x (λ c. omega arith) (λ c. omega arith) loop-again (λ c. omega arith) (λ c. tt))
+    (λ c κs. omega arith) put-job-requires (λ c. omega arith) add-x (λ c. omega arith) (λ c. omega arith) loop-again (λ c. omega arith) (λ c. tt))

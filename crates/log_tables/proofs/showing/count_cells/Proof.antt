@@ -19,11 +19,14 @@ loop-holds : tie.Need-loop-holds Inv-loop μ-loop
 loop-holds c = (omega arith, none-yet _ _)
 
 -- in a turn of the loop: the cells of each board, the place that is looked at, and how many differ before it
+abbrev entry-of : tie.In-loop Inv-loop μ-loop → tie.Start
+entry-of c = search
+
 abbrev cellsA : tie.In-loop Inv-loop μ-loop → List ℕ
-cellsA c = c .before .before .before .before .args .a .now
+cellsA c = entry-of c .args .a .now
 
 abbrev cellsB : tie.In-loop Inv-loop μ-loop → List ℕ
-cellsB c = c .before .before .before .before .args .b .now
+cellsB c = entry-of c .args .b .now
 
 abbrev place : tie.In-loop Inv-loop μ-loop → ℕ
 place c = c .before .loop .k

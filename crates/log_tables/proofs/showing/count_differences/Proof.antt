@@ -25,11 +25,14 @@ returns-2 c =
     second-uncounted _ _ (holds (first .before .is-sound .ensures) (first .if1 .left)) (breaks (c .before .is-sound2 .ensures) (c .if2 .taken))
 
 -- past the two tests: the words of each board, that it is sound, and that they are as many as a board has
+abbrev entry-of : tie.Else2 → tie.Start
+entry-of c = search
+
 abbrev wordsA : tie.Else2 → List ℕ
-wordsA c = c .before .before .before .before .before .before .args .a .now
+wordsA c = entry-of c .args .a .now
 
 abbrev wordsB : tie.Else2 → List ℕ
-wordsB c = c .before .before .before .before .before .before .args .b .now
+wordsB c = entry-of c .args .b .now
 
 soundA : (c : tie.Else2) → sound (lentBoard (wordsA c)) ≡ true
 soundA c = let first = c .before .before in holds (first .before .is-sound .ensures) (first .if1 .left)

@@ -18,14 +18,17 @@ returns-3 : tie.Need-returns-3
 returns-3 c = no-board _ _ _ (omega arith) (omega arith) (c .if3 .taken)
 
 -- past the three tests: the words of the board, the row and the point
+abbrev entry-of : tie.Else3 → tie.Start
+entry-of c = search
+
 abbrev words : tie.Else3 → List ℕ
-words c = c .before .before .before .before .args .w .now
+words c = entry-of c .args .w .now
 
 abbrev row : tie.Else3 → ℕ
-row c = c .before .before .before .before .args .i
+row c = entry-of c .args .i
 
 abbrev point : tie.Else3 → ℕ
-point c = c .before .before .before .before .args .k
+point c = entry-of c .args .k
 
 returns-4 : tie.Need-returns-4
 returns-4 c =

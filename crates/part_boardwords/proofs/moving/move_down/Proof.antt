@@ -1,5 +1,5 @@
 -- `move_down` meets its contract. The words from `from` on and before k are those a job further on; the words from k on are as they came.
-use Prim.Native.Nat.{ℕ, _+_, _≤_, _-_}
+use Prim.Native.Nat.{_+_, _≤_, _-_}
 use mathlib.Core.Path.{_≡_, refl}
 use native.Mathlib.Omega.{arith}
 use lib.ListN.{length, length-set}
@@ -21,15 +21,12 @@ loop-holds c = let w₀ = c .args .w .now in
     (omega arith, omega arith, rewritten-none (downByJob w₀) w₀ _ _ (omega arith), refl)
 
 loop-again : tie.Need-loop-again Inv-loop μ-loop
-loop-again c =
-    let turn = c .before .before in
-    let L = turn .loop in
-    let A = turn .before .args in
-    let W = A .w .now in
-    let read = ahead (downByJob W) W (L .w) (A .from) (L .k) (L .inv .2) (L .k + jobSize) (omega arith) in (
+loop-again c = let entry : tie.Start Inv-loop μ-loop = search in let turn : tie.At-loop Inv-loop μ-loop = search in let L = turn .loop in
+    let W = entry .args .w .now in
+    let read = ahead (downByJob W) W (L .w) (entry .args .from) (L .k) (L .inv .2) (L .k + jobSize) (omega arith) in (
       omega arith,
       omega arith,
-      store (downByJob W) W (L .w) (A .from) (L .k) (L .inv .2) _ _ (omega arith) (omega arith) refl read,
+      store (downByJob W) W (L .w) (entry .args .from) (L .k) (L .inv .2) _ _ (omega arith) (omega arith) refl read,
       simp length-set (omega arith),
     )
 

@@ -24,19 +24,16 @@ loop-holds : tie.Need-loop-holds Inv-loop μ-loop
 loop-holds c = (omega arith, omega arith, rewritten-none _ _ _ _ (omega arith), refl)
 
 loop-again : tie.Need-loop-again Inv-loop μ-loop
-loop-again c =
-    let turn = c .before .before in
-    let L = turn .loop in
-    let A = turn .before .args in
-    let W = A .w .now in
+loop-again c = let entry : tie.Start Inv-loop μ-loop = search in let turn : tie.At-loop Inv-loop μ-loop = search in let L = turn .loop in
+    let W = entry .args .w .now in
     let read : getD (L .w) (L .k - 1) 0 ≡ getD W (L .k - 1) 0 =
-    rw (L .inv .2) (rewritten-below (upByUse W) W (L .k + useSize) (A .to + useSize) (L .k - 1) (omega arith)) in
+    rw (L .inv .2) (rewritten-below (upByUse W) W (L .k + useSize) (entry .args .to + useSize) (L .k - 1) (omega arith)) in
     let from : L .k - 1 ≡ L .k + (useSize - 1) - useSize = omega arith in
     let low : L .k - 1 + useSize ≡ L .k + (useSize - 1) = omega arith in (
       omega arith,
       omega arith,
       rw low
-          (store-down (upByUse W) W (L .w) (L .k + (useSize - 1)) (A .to + useSize) (L .k + useSize) _ (L .inv .2)
+          (store-down (upByUse W) W (L .w) (L .k + (useSize - 1)) (entry .args .to + useSize) (L .k + useSize) _ (L .inv .2)
           (omega arith) (omega arith) (omega arith)
           (read ∙ ap (λ (i : ℕ). getD W i 0) from)),
       simp length-set (L .inv .3),
@@ -46,7 +43,7 @@ returns : tie.Need-returns Inv-loop μ-loop
 returns c =
     let turn = c .before in
     let L = turn .loop in
-    let A = turn .before .args in
+    let A = c .before .before .args in
     let e : L .k ≡ A .from = omega arith in
     rw (← e) (L .inv .2)
 

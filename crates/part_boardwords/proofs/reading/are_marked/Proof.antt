@@ -1,5 +1,5 @@
 -- `are_marked` meets its contract. The loop keeps whether the jobs passed are marked.
-use Prim.Native.Nat.{_≤_, _-_, _+_, _*_}
+use Prim.Native.Nat.{_≤_, _-_}
 use mathlib.Core.Path.{_≡_, _∙_, ap}
 use native.Mathlib.Omega.{arith}
 use borrow.Author.Needs.{needs}
@@ -20,11 +20,11 @@ loop-holds : tie.Need-loop-holds Inv-loop μ-loop
 loop-holds c = (omega arith, allBelow-none _)
 
 loop-again : tie.Need-loop-again Inv-loop μ-loop
-loop-again c =
+loop-again c = let word-read : tie.After-word Inv-loop μ-loop = search in
     let read = c .before in
-    let turn = read .before .before in
+    let turn : tie.At-loop Inv-loop μ-loop = search in
     let L = turn .loop in
-    let is = c .is-marked .ensures ∙ ap (isMarked (turn .before .word .result) (L .k)) (read .word2 .ensures) in
+    let is = c .is-marked .ensures ∙ ap (isMarked (word-read .word .result) (L .k)) (read .word2 .ensures) in
     (omega arith, allBelow-next _ (L .k) (L .ok) _ (L .inv .1) is)
 
 returns : tie.Need-returns Inv-loop μ-loop

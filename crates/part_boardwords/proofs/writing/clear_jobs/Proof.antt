@@ -4,7 +4,7 @@ use Rattle.part_boardwords.proofs.writing.clear_jobs.Statement.{stateme
 use Rattle.part_boardwords.proofs.writing.clear_jobs.Tie as tie
 
 returns : tie.Need-returns
-returns c = let cleared = c .before .before in cleared .clear .ensures
+returns c = let cleared : tie.After-clear = search in cleared .clear .ensures
 
 pub clear-jobs-spec : {M : Type 1} → statement M
 clear-jobs-spec =

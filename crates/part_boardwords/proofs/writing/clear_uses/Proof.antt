@@ -4,7 +4,7 @@ use Rattle.part_boardwords.proofs.writing.clear_uses.Statement.{stateme
 use Rattle.part_boardwords.proofs.writing.clear_uses.Tie as tie
 
 returns : tie.Need-returns
-returns c = let cleared = c .before .before in cleared .clear .ensures
+returns c = let cleared : tie.After-clear = search in cleared .clear .ensures
 
 pub clear-uses-spec : {M : Type 1} → statement M
 clear-uses-spec =

@@ -6,9 +6,8 @@ use Rattle.part_boardwords.proofs.writing.write_job.Statement.{statemen
 use Rattle.part_boardwords.proofs.writing.write_job.Tie as tie
 
 returns : tie.Need-returns
-returns c =
-    let written = c .before .before in
-    overwritten-last _ _ _ _ _ _ _ (written .write-three .ensures) (written .before .mark .ensures)
+returns c = let written : tie.After-write-three = search in let marked : tie.After-mark = search in
+    overwritten-last _ _ _ _ _ _ _ (written .write-three .ensures) (marked .mark .ensures)
 
 pub write-job-spec : {M : Type 1} → statement M
 write-job-spec =

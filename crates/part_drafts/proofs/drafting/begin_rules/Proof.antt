@@ -14,18 +14,23 @@ push-requires : tie.Need-push-requires
 push-requires c κs = Room-of (c .before .no-rules .result) [] 1 (c .before .no-rules .ensures) (omega arith)
 
 add-durations-requires : tie.Need-add-durations-requires
-add-durations-requires c κs =
-    let entry = c .before .before .before in
+add-durations-requires c κs = let began : tie.After-no-rules = search in let entry : tie.Start = search in
     let rule = notBefore (entry .args .first) (entry .args .earliest) in
-    let one = first-pushed (c .before .before .no-rules .result) (c .push .result) (c .before .not-before .result) rule (c .before .before .no-rules .ensures) (c .push .ensures) (c .before .not-before .ensures) in
+    let bounded = c .before .not-before in
+    let one =
+    first-pushed (began .no-rules .result) (c .push .result) (bounded .result) rule (began .no-rules .ensures) (c .push .ensures) (bounded .ensures) in
     (Room-of (c .push .result) (rule ∷ []) 16 one (omega arith), entry .pre .0, entry .pre .1)
 
 returns : tie.Need-returns
-returns c = let A = c .before .before .before .before .args in
+returns c = let bounded : tie.After-not-before = search in let began : tie.After-no-rules = search in let entry : tie.Start = search in
+    let A = entry .args in
     let rule = notBefore (A .first) (A .earliest) in
-    let one = first-pushed (c .before .before .before .no-rules .result) (c .before .push .result) (c .before .before .not-before .result) rule (c .before .before .before .no-rules .ensures) (c .before .push .ensures) (c .before .before .not-before .ensures) in
+    let put = c .before .push in
+    let one =
+    first-pushed (began .no-rules .result) (put .result) (bounded .not-before .result) rule (began .no-rules .ensures) (put .ensures)
+    (bounded .not-before .ensures) in
     c .add-durations .ensures
-    ∙ ap (λ (l : List Rule). rulesFrom (l ++ durations (A .first) (stepsOf (A .steps)))) (rules-back (c .before .push .result) (rule ∷ []) one (omega arith))
+    ∙ ap (λ (l : List Rule). rulesFrom (l ++ durations (A .first) (stepsOf (A .steps)))) (rules-back (put .result) (rule ∷ []) one (omega arith))
 
 pub begin-rules-spec : {M : Type 1} → statement M
 begin-rules-spec = tie.close (tie.spec (λ c κs. search needs) (λ c κs. search needs) push-requires add-durations-requires returns)

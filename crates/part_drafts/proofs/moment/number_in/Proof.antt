@@ -23,7 +23,7 @@ abbrev μ-loop : tie.MeasureT-loop
 cast-n : tie.Need-cast-n Inv-loop μ-loop
 cast-n c =
     let start = c .before in
-    let entry = start .before .before .before in
+    let entry : tie.Start Inv-loop μ-loop = search in
     let A = entry .args in
     let few = words-few (A .w .now) (entry .pre .1) (A .resource) (entry .pre .3) in
     omega (arith, few, ap (wordIn (A .w .now)) (start .line-start .ensures))
@@ -31,7 +31,7 @@ cast-n c =
 loop-holds : tie.Need-loop-holds Inv-loop μ-loop
 loop-holds c =
     let start = c .before in
-    let entry = start .before .before .before in
+    let entry : tie.Start Inv-loop μ-loop = search in
     let A = entry .args in
     let p = entry .pre in
     let w = wordIn (A .w .now) in
@@ -43,46 +43,30 @@ loop-holds c =
     )
 
 read-allocation-requires : tie.Need-read-allocation-requires Inv-loop μ-loop
-read-allocation-requires c κs =
-    let turn = c .before in
-    let entry = turn .before .before .before .before .before in
-    omega (arith, entry .pre .2 .there)
-
-add-n : tie.Need-add-n Inv-loop μ-loop
-add-n c =
-    let turn = c .before .before .before .before in
-    let entry = turn .before .before .before .before .before in
-    omega (arith, turn .loop .inv .1, entry .pre .2 .few)
+read-allocation-requires c κs = let entry : tie.Start Inv-loop μ-loop = search in omega (arith, entry .pre .2 .there)
 
 loop-again : tie.Need-loop-again Inv-loop μ-loop
-loop-again c =
-    let read = c .before .before in
-    let turn = read .before .before in
-    let entry = turn .before .before .before .before .before in
-    let A = entry .args in
-    let p = entry .pre in
-    let L = turn .loop in
-    let W = A .w .now in
+loop-again c = let read : tie.After-read-allocation Inv-loop μ-loop = search in let turn : tie.At-loop Inv-loop μ-loop = search in
+    let entry : tie.Start Inv-loop μ-loop = search in let A = entry .args in let p = entry .pre in let L = turn .loop in let W = A .w .now in
     let is = ap (λ (q : Allocation). q .resource) (read .read-allocation .ensures) in (
       omega arith,
-      ⊎-elim (λ v. omega (arith, v .1, L .inv .1)) (λ v. omega (arith, v .1, L .inv .1)) (c .if1 .came),
+      ⊎-elim (λ v. omega arith) (λ v. omega arith) (c .if1 .came),
       λ x.
-          ⊎-elim (λ v. omega (arith, v .1, L .inv .2 x, then-long x W (A .allocations .now) (L .j) (A .resource) (sym is ∙ v .0 .taken) (p .3)))
-          (λ v. omega (arith, v .1, L .inv .2 x, ap length (then-other x W (A .allocations .now) (L .j) (A .resource) (λ e. v .0 .left (is ∙ e)))))
+          ⊎-elim (λ v. omega (arith, L .inv .2 x, then-long x W (A .allocations .now) (L .j) (A .resource) (sym is ∙ v .0 .taken) (p .3)))
+          (λ v. omega (arith, L .inv .2 x, ap length (then-other x W (A .allocations .now) (L .j) (A .resource) (λ e. v .0 .left (is ∙ e)))))
           (c .if1 .came),
     )
 
 returns : tie.Need-returns Inv-loop μ-loop
-returns c =
+returns c = let entry : tie.Start Inv-loop μ-loop = search in
     let turn = c .before in
-    let A = turn .before .before .before .before .before .args in
     let L = turn .loop in
-    let end : L .j ≡ A .k = omega arith in
-    λ x. L .inv .2 x ∙ ap (λ (j : ℕ). length (lineThen x (A .w .now) (A .allocations .now) j (A .resource))) end
+    let end : L .j ≡ entry .args .k = omega arith in
+    λ x. L .inv .2 x ∙ ap (λ (j : ℕ). length (lineThen x (entry .args .w .now) (entry .args .allocations .now) j (entry .args .resource))) end
 
 pub number-in-spec : {M : Type 1} → statement M
 number-in-spec =
     tie.close
     (tie.spec
     Inv-loop μ-loop (λ c κs. omega arith) (λ c. omega arith) (λ c. omega (arith, c .before .line-start .ensures)) cast-n
-    loop-holds read-allocation-requires add-n (λ c. omega arith) (λ c. omega arith) loop-again returns)
+    loop-holds read-allocation-requires (λ c. omega arith) (λ c. omega arith) (λ c. omega arith) loop-again returns)

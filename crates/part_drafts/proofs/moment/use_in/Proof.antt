@@ -1,5 +1,5 @@
 -- `use_in` meets its contract. Before each turn, the use stands at `at` of the line once the first j allocations are put in (`Sought`).
-use Prim.Native.Nat.{ℕ, _≤_, _<_, _-_, _+_, _*_}
+use Prim.Native.Nat.{ℕ, _≤_, _<_, _-_, _+_}
 use mathlib.Core.List.{List}
 use mathlib.Core.Path.{_≡_, refl, sym, _∙_, ap, subst}
 use native.Mathlib.Omega.{arith}
@@ -34,30 +34,25 @@ found {x = x} {w = w} {allocations = allocations} {r = r} {u = u} {j = j} {at = 
     look-words (subst (λ (i : ℕ). Sought x w allocations r u i at) {x = j} {y = 0} (omega arith) s)
 
 loop-holds : tie.Need-loop-holds Inv-loop μ-loop
-loop-holds c =
-    let entry = c .before .before in
+loop-holds c = let entry : tie.Start Inv-loop μ-loop = search in
     (omega arith, record { fits = entry .pre .1 .0; below = entry .pre .1 .1; is = refl })
 
 read-allocation-requires : tie.Need-read-allocation-requires Inv-loop μ-loop
-read-allocation-requires c κs =
-    let entry = c .before .before .before .before in
-    omega (arith, entry .pre .0 .2 .there)
+read-allocation-requires c κs = let entry : tie.Start Inv-loop μ-loop = search in omega (arith, entry .pre .0 .2 .there)
 
 used-from-requires : tie.Need-used-from-requires Inv-loop μ-loop
-used-from-requires c κs =
-    let read = c .before .before .before .before in
-    let turn = read .before .before in
-    let p = turn .before .before .before .pre in
+used-from-requires c κs = let entry : tie.Start Inv-loop μ-loop = search in let read : tie.After-read-allocation Inv-loop μ-loop = search in
+    let turn : tie.At-loop Inv-loop μ-loop = search in
     let step = ap (λ (q : Allocation). q .step) (read .read-allocation .ensures) in
-    (p .0 .4, omega (arith, step, p .0 .2 .each (turn .loop .j - 1) (omega arith) .step))
+    (entry .pre .0 .4, omega (arith, step, entry .pre .0 .2 .each (turn .loop .j - 1) (omega arith) .step))
 
 returns : tie.Need-returns Inv-loop μ-loop
 returns c =
     let here = c .before in
-    let own = here .before .before in
-    let read = own .before .before in
-    let turn = read .before .before in
-    let entry = turn .before .before .before in
+    let own : tie.Then1 Inv-loop μ-loop = search in
+    let read : tie.After-read-allocation Inv-loop μ-loop = search in
+    let turn : tie.At-loop Inv-loop μ-loop = search in
+    let entry : tie.Start Inv-loop μ-loop = search in
     let A = entry .args in
     let L = turn .loop in
     let s = down (A .w .now) (A .first) (A .allocations .now) (A .resource) (L .j) (L .at) (L .inv .1) (omega arith) in
@@ -67,55 +62,39 @@ returns c =
     c .used-from .ensures ∙ ap (usedFrom (A .first)) allocation ∙ sym (look-here (L .j - 1) s resource (entry .pre .0 .3) place)
 
 loop-again : tie.Need-loop-again Inv-loop μ-loop
-loop-again c =
-    let own = c .before .before .before in
-    let read = own .before .before in
-    let turn = read .before .before in
-    let entry = turn .before .before .before in
-    let A = entry .args in
-    let L = turn .loop in
+loop-again c = let own : tie.Then1 Inv-loop μ-loop = search in let read : tie.After-read-allocation Inv-loop μ-loop = search in
+    let turn : tie.At-loop Inv-loop μ-loop = search in let entry : tie.Start Inv-loop μ-loop = search in let A = entry .args in let L = turn .loop in
     let s = down (A .w .now) (A .first) (A .allocations .now) (A .resource) (L .j) (L .at) (L .inv .1) (omega arith) in
     let allocation = read .read-allocation .ensures in
     let resource = sym (ap (λ (q : Allocation). q .resource) allocation) ∙ own .if1 .taken in
     let place = ap (λ (q : Allocation). q .place) allocation in
-    (omega arith, look-behind (L .j - 1) s resource (entry .pre .0 .3) (omega (arith, place, c .if3 .taken)))
+    (omega arith, look-behind (L .j - 1) s resource (entry .pre .0 .3) (omega (arith, place)))
 
 loop-again-2 : tie.Need-loop-again-2 Inv-loop μ-loop
-loop-again-2 c =
-    let not-here = c .before in
-    let own = not-here .before .before in
-    let read = own .before .before in
-    let turn = read .before .before in
-    let entry = turn .before .before .before in
-    let A = entry .args in
-    let L = turn .loop in
+loop-again-2 c = let own : tie.Then1 Inv-loop μ-loop = search in let read : tie.After-read-allocation Inv-loop μ-loop = search in
+    let turn : tie.At-loop Inv-loop μ-loop = search in let entry : tie.Start Inv-loop μ-loop = search in let A = entry .args in let L = turn .loop in
     let s = down (A .w .now) (A .first) (A .allocations .now) (A .resource) (L .j) (L .at) (L .inv .1) (omega arith) in
     let allocation = read .read-allocation .ensures in
     let resource = sym (ap (λ (q : Allocation). q .resource) allocation) ∙ own .if1 .taken in
     let place = ap (λ (q : Allocation). q .place) allocation in
-    (omega arith, look-before (L .j - 1) s resource (entry .pre .0 .3) (omega (arith, place, c .if3 .left, not-here .if2 .left)))
+    (omega arith, look-before (L .j - 1) s resource (entry .pre .0 .3) (omega (arith, place)))
 
 loop-again-3 : tie.Need-loop-again-3 Inv-loop μ-loop
-loop-again-3 c =
-    let read = c .before .before in
-    let turn = read .before .before in
-    let A = turn .before .before .before .args in
-    let L = turn .loop in
+loop-again-3 c = let entry : tie.Start Inv-loop μ-loop = search in let read : tie.After-read-allocation Inv-loop μ-loop = search in
+    let turn : tie.At-loop Inv-loop μ-loop = search in let A = entry .args in let L = turn .loop in
     let s = down (A .w .now) (A .first) (A .allocations .now) (A .resource) (L .j) (L .at) (L .inv .1) (omega arith) in
     (omega arith, look-other (L .j - 1) s (λ e. c .if1 .left (ap (λ (q : Allocation). q .resource) (read .read-allocation .ensures) ∙ e)))
 
 use-at-requires : tie.Need-use-at-requires Inv-loop μ-loop
-use-at-requires c κs =
-    let turn = c .before .before in
-    let p = turn .before .before .before .pre in
-    let at = found (turn .loop .inv .1) (omega arith) (p .0 .3) (p .0 .1) in
-    (omega (arith, c .line-start .ensures, p .0 .0, p .0 .3), at .0)
+use-at-requires c κs = let entry : tie.Start Inv-loop μ-loop = search in let turn : tie.At-loop Inv-loop μ-loop = search in
+    let at = found (turn .loop .inv .1) (omega arith) (entry .pre .0 .3) (entry .pre .0 .1) in
+    (omega arith, at .0)
 
 returns-2 : tie.Need-returns-2 Inv-loop μ-loop
 returns-2 c =
     let start = c .before in
-    let turn = start .before .before in
-    let entry = turn .before .before .before in
+    let turn : tie.At-loop Inv-loop μ-loop = search in
+    let entry : tie.Start Inv-loop μ-loop = search in
     let p = entry .pre in
     let L = turn .loop in
     let at = found (L .inv .1) (omega arith) (p .0 .3) (p .0 .1) in

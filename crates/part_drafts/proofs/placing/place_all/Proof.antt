@@ -36,14 +36,13 @@ abbrev μ-loop : tie.MeasureT-loop
 μ-loop w settings first allocations n made₀ k₀ made k = n - k
 
 loop-holds : tie.Need-loop-holds Inv-loop μ-loop
-loop-holds c =
-    let A = c .before .before .args in
-    let p = c .before .before .pre in
+loop-holds c = let entry : tie.Start Inv-loop μ-loop = search in let A = entry .args in let p = entry .pre in
+    let all = allocationsIn (A .allocations .now) (A .many) in
     let none = none-yet (A .first) (A .w .now) (A .allocations .now) in (
       omega arith,
       record {
         accepted = refl;
-        runs = ap (λ (ls : List (List Use)). placed (A .settings) (A .first) 0 (allocationsIn (A .allocations .now) (A .many)) ls (rulesOf (A .rules))) (sym (none .0));
+        runs = ap (λ (ls : List (List Use)). placed (A .settings) (A .first) 0 all ls (rulesOf (A .rules))) (sym (none .0));
         room = p .4;
       },
       none .1,
@@ -51,66 +50,44 @@ loop-holds c =
     )
 
 place-one-requires : tie.Need-place-one-requires Inv-loop μ-loop
-place-one-requires c κs =
-    let p = c .before .before .before .before .pre in
-    ((p .0, p .1, read-less _ _ _ (p .2) (omega arith), p .3), c .before .loop .inv .2)
+place-one-requires c κs = let entry : tie.Start Inv-loop μ-loop = search in
+    ((entry .pre .0, entry .pre .1, read-less _ _ _ (entry .pre .2) (omega arith), entry .pre .3), c .before .loop .inv .2)
 
 returns : tie.Need-returns Inv-loop μ-loop
 unfolding answered
-returns c =
-    let A = c .before .before .before .before .before .before .before .before .args in
-    let p = c .before .before .before .before .before .before .before .before .pre in
-    let L = c .before .before .before .before .before .loop in
+returns c = let tried : tie.After-place-one Inv-loop μ-loop = search in let at-loop : tie.At-loop Inv-loop μ-loop = search in
+    let entry : tie.Start Inv-loop μ-loop = search in let A = entry .args in let L = at-loop .loop in
     let next = left-next (A .allocations .now) (A .many) (L .k) (omega arith) in
-    let out = c .before .before .before .place-one .ensures .2 (L .made) (Room-less (L .inv .1 .room) 2 (omega (arith, p .2 .few))) in
-    (sym (stops-here (L .inv .1) (allocationAt (A .allocations .now) (L .k)) _ next out _ (c .before .ruling .given .1)), Room-less (L .inv .1 .room) 1 (omega (arith, p .2 .few)))
-
-add-next : tie.Need-add-next Inv-loop μ-loop
-add-next c = omega (arith, c .before .before .before .before .before .before .before .place-one .ensures .0, c .before .before .before .before .before .before .before .place-one .ensures .1, c .before .before .before .before .before .before .before .before .before .loop .inv .1 .room .fits, c .before .before .before .before .before .before .before .before .before .loop .inv .3, c .before .before .before .before .before .before .before .before .before .before .before .before .pre .2 .few)
-
-mul-one : tie.Need-mul-one Inv-loop μ-loop
-mul-one c = omega (arith, c .before .before .before .before .before .before .before .place-one .ensures .0, c .before .before .before .before .before .before .before .place-one .ensures .1, c .before .before .before .before .before .before .before .before .before .loop .inv .1 .room .fits, c .before .before .before .before .before .before .before .before .before .loop .inv .3, c .before .before .before .before .before .before .before .before .before .before .before .before .pre .2 .few)
-
-element-set-from-one : tie.Need-element-set-from-one Inv-loop μ-loop
-element-set-from-one c = omega (arith, c .before .before .before .before .before .before .before .place-one .ensures .0, c .before .before .before .before .before .before .before .place-one .ensures .1, c .before .before .before .before .before .before .before .before .before .loop .inv .1 .room .fits, c .before .before .before .before .before .before .before .before .before .loop .inv .3, c .before .before .before .before .before .before .before .before .before .before .before .before .pre .2 .few)
-
-mul-two : tie.Need-mul-two Inv-loop μ-loop
-mul-two c = omega (arith, c .before .before .before .before .before .before .before .place-one .ensures .0, c .before .before .before .before .before .before .before .place-one .ensures .1, c .before .before .before .before .before .before .before .before .before .loop .inv .1 .room .fits, c .before .before .before .before .before .before .before .before .before .loop .inv .3, c .before .before .before .before .before .before .before .before .before .before .before .before .pre .2 .few)
-
-element-set-from-two : tie.Need-element-set-from-two Inv-loop μ-loop
-element-set-from-two c = omega (arith, c .before .before .before .before .before .before .before .place-one .ensures .0, c .before .before .before .before .before .before .before .place-one .ensures .1, c .before .before .before .before .before .before .before .before .before .loop .inv .1 .room .fits, c .before .before .before .before .before .before .before .before .before .loop .inv .3, c .before .before .before .before .before .before .before .before .before .before .before .before .pre .2 .few)
-
-add-made : tie.Need-add-made Inv-loop μ-loop
-add-made c = omega (arith, c .before .before .before .before .before .before .before .before .place-one .ensures .0, c .before .before .before .before .before .before .before .before .place-one .ensures .1, c .before .before .before .before .before .before .before .before .before .before .loop .inv .1 .room .fits, c .before .before .before .before .before .before .before .before .before .before .loop .inv .3, c .before .before .before .before .before .before .before .before .before .before .before .before .before .pre .2 .few)
+    let out = tried .place-one .ensures .2 (L .made) (Room-less (L .inv .1 .room) 2 (omega arith)) in
+    let stops = stops-here (L .inv .1) (allocationAt (A .allocations .now) (L .k)) _ next out _ (c .before .ruling .given .1) in
+    (sym stops, Room-less (L .inv .1 .room) 1 (omega arith))
 
 loop-again : tie.Need-loop-again Inv-loop μ-loop
-loop-again c =
-    let A = c .before .before .before .before .before .before .before .before .before .before .before .before .before .args in
-    let p = c .before .before .before .before .before .before .before .before .before .before .before .before .before .pre in
-    let L = c .before .before .before .before .before .before .before .before .before .before .loop in
+loop-again c = let told : tie.After-enum-told Inv-loop μ-loop = search in let tried : tie.After-place-one Inv-loop μ-loop = search in
+    let at-loop : tie.At-loop Inv-loop μ-loop = search in let entry : tie.Start Inv-loop μ-loop = search in let A = entry .args in
+    let L = at-loop .loop in
     let next = left-next (A .allocations .now) (A .many) (L .k) (omega arith) in
-    let out = c .before .before .before .before .before .before .before .before .place-one .ensures .2 (L .made) (Room-less (L .inv .1 .room) 2 (omega (arith, p .2 .few))) in
+    let out = tried .place-one .ensures .2 (L .made) (Room-less (L .inv .1 .room) 2 (omega arith)) in
     let q = allocationAt (A .allocations .now) (L .k) in
-    let fit = went-in (L .inv .1) q _ next out (c .before .before .before .before .before .before .enum-told .given .1) in (
+    let fit = went-in (L .inv .1) q _ next out (told .enum-told .given .1) in (
       omega arith,
-      goes-on (L .inv .1) q _ next out (c .before .before .before .before .before .before .enum-told .given .1) (omega (arith, p .2 .few)) _ (sym (then-more (A .first) (A .w .now) (A .allocations .now) (L .k))),
+      goes-on (L .inv .1) q _ next out (told .enum-told .given .1) (omega arith) _ (sym (then-more (A .first) (A .w .now) (A .allocations .now) (L .k))),
       fits-next (A .first) (A .w .now) (A .allocations .now) (L .k) (L .inv .2) (fit .0) (fit .1),
       simp length-set (L .inv .3),
     )
 
 returns-2 : tie.Need-returns-2 Inv-loop μ-loop
-returns-2 c =
-    let A = c .before .before .before .before .args in
+returns-2 c = let entry : tie.Start Inv-loop μ-loop = search in let A = entry .args in
     let L = c .before .loop in
     let end : L .k ≡ A .many = omega arith in (
       ap (λ (i : ℕ). answered Accepted (allWith (A .first) (linesIn (A .w .now)) (allocationsIn (A .allocations .now) i)) (rulesOf (L .made))) (sym end)
           ∙ all-placed (L .inv .1) (left-over (A .allocations .now) (A .many) (L .k) (omega arith)),
-      Room-less (L .inv .1 .room) 1 (omega (arith, c .before .before .before .before .pre .2 .few)),
+      Room-less (L .inv .1 .room) 1 (omega arith),
     )
 
 pub place-all-spec : {M : Type 1} → statement M
 place-all-spec =
     tie.close
     (tie.spec
-    Inv-loop μ-loop loop-holds place-one-requires (λ c. search needs) returns (λ c. search needs) add-next mul-one element-set-from-one mul-two
-    element-set-from-two add-made (λ c. omega arith) (λ c. omega arith) loop-again returns-2)
+    Inv-loop μ-loop loop-holds place-one-requires (λ c. search needs) returns (λ c. search needs) (λ c. omega arith) (λ c. omega arith)
+    (λ c. omega arith) (λ c. omega arith) (λ c. omega arith) (λ c. omega arith) (λ c. omega arith) (λ c. omega arith) loop-again returns-2)

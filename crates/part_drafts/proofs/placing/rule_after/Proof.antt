@@ -15,33 +15,31 @@ use Rattle.part_drafts.proofs.placing.rule_after.Statement.{statement}
 use Rattle.part_drafts.proofs.placing.rule_after.Tie as tie
 
 returns : tie.Need-returns
-returns c =
-    let A = c .before .before .before .before .before .args in
+returns c = let entry : tie.Start = search in let A = entry .args in
     let l = lineThen (A .first) (A .w .now) (A .allocations .now) (A .k) (A .allocation .resource) in
-    c .no-rule .ensures ∙ ap maybeFrom (after-none (A .settings) l (A .allocation .place) (usedFrom (A .first) (A .allocation)) (omega (arith, c .before .before .before .before .before .pre .1 .1, c .before .if1 .taken)))
+    c .no-rule .ensures ∙ ap maybeFrom (after-none (A .settings) l (A .allocation .place) (usedFrom (A .first) (A .allocation)) (omega arith))
 
 use-in-requires : tie.Need-use-in-requires
-use-in-requires c κs =
-    let p = c .before .before .before .before .pre in
-    ((p .0 .0, p .0 .1, p .0 .2, p .0 .3 .resource, p .0 .4), (p .1 .0, omega (arith, p .1 .1)))
+use-in-requires c κs = let entry : tie.Start = search in
+    ((entry .pre .0 .0, entry .pre .0 .1, entry .pre .0 .2, entry .pre .0 .3 .resource, entry .pre .0 .4), (entry .pre .1 .0, omega arith))
 
 used-from-requires : tie.Need-used-from-requires
-used-from-requires c κs = let p = c .before .before .before .before .before .pre in (p .0 .4, p .0 .3 .step)
+used-from-requires c κs = let entry : tie.Start = search in (entry .pre .0 .4, entry .pre .0 .3 .step)
 
 in-order-requires : tie.Need-in-order-requires
-in-order-requires c κs =
-    let A = c .before .before .before .before .before .before .args in
-    subst Short (sym (c .used-from .ensures)) (used-short (A .first) (A .allocation) (c .before .before .before .before .before .before .pre .0 .3))
+in-order-requires c κs = let entry : tie.Start = search in
+    subst Short (sym (c .used-from .ensures)) (used-short (entry .args .first) (entry .args .allocation) (entry .pre .0 .3))
 
 returns-2 : tie.Need-returns-2
-returns-2 c =
-    let A = c .before .before .before .before .before .before .before .before .args in
+returns-2 c = let looked : tie.After-use-in = search in let entry : tie.Start = search in let A = entry .args in
     let l = lineThen (A .first) (A .w .now) (A .allocations .now) (A .k) (A .allocation .resource) in
     let u = usedFrom (A .first) (A .allocation) in
     c .one-rule .ensures
     ∙ ap (λ (r : Rule). maybeFrom (r ∷ []))
-    (c .before .in-order .ensures ∙ ap (λ (b : Use). inOrder (A .settings) b (c .before .before .before .use-in .result)) (c .before .before .used-from .ensures) ∙ ap (inOrder (A .settings) u) (c .before .before .before .use-in .ensures))
-    ∙ ap maybeFrom (after-at (A .settings) l (A .allocation .place) u (omega (arith, c .before .before .before .before .before .before .before .before .pre .1 .1)))
+    (c .before .in-order .ensures
+    ∙ ap (λ (b : Use). inOrder (A .settings) b (looked .use-in .result)) (c .before .before .used-from .ensures)
+    ∙ ap (inOrder (A .settings) u) (looked .use-in .ensures))
+    ∙ ap maybeFrom (after-at (A .settings) l (A .allocation .place) u (omega arith))
 
 pub rule-after-spec : {M : Type 1} → statement M
 rule-after-spec =

@@ -17,19 +17,12 @@ clear-jobs-requires : tie.Need-clear-jobs-requires
 clear-jobs-requires c κs = simp length-set (omega arith, omega arith)
 
 same-length : tie.Need-same-length
-same-length c =
-    let cleared = c .before .before in
-    let written = cleared .before .before .before .before in
+same-length c = let cleared : tie.After-clear-jobs = search in let written : tie.After-write-job = search in
     omega (arith, stored-length (written .write-job .last .0) _ countAt _ _ _ (cleared .clear-jobs .ensures))
 
 returns : tie.Need-returns
-returns c =
-    let cleared = c .before .before in
-    let written = cleared .before .before .before .before in
-    let made = written .before in
-    let entry = made .before .before .before .before in
-    let A = entry .args in
-    let W = A .w .now in
+returns c = let cleared : tie.After-clear-jobs = search in let written : tie.After-write-job = search in let made : tie.After-new-job = search in
+    let entry : tie.Start = search in let A = entry .args in let W = A .w .now in
     let is = written .write-job .ensures ∙ ap (λ (j : Job). overwritten W (jobStart (wordIn W countAt)) (jobWords j)) (made .new-job .ensures) in
     add-front W (written .write-job .last .0) _ (newJob (A .points) (A .batch)) (omega arith) (omega arith) (entry .pre .2) is (cleared .clear-jobs .ensures)
 

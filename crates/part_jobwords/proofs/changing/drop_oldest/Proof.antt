@@ -13,16 +13,11 @@ clear-jobs-requires : tie.Need-clear-jobs-requires
 clear-jobs-requires c κs = simp length-set (omega arith, omega arith)
 
 same-length : tie.Need-same-length
-same-length c =
-    let cleared = c .before .before in
-    let moved = cleared .before .before .before .before in
+same-length c = let cleared : tie.After-clear-jobs = search in let moved : tie.After-move-jobs-down = search in
     omega (arith, stored-length (moved .move-jobs-down .last .0) _ countAt _ _ _ (cleared .clear-jobs .ensures))
 
 returns : tie.Need-returns
-returns c =
-    let cleared = c .before .before in
-    let moved = cleared .before .before .before .before in
-    let entry = moved .before .before .before .before in
+returns c = let cleared : tie.After-clear-jobs = search in let moved : tie.After-move-jobs-down = search in let entry : tie.Start = search in
     let w = entry .args .w .now in
     left-front w (moved .move-jobs-down .last .0) _ (getD w countAt 0 - 1) (omega arith) (omega arith) (omega arith) (entry .pre .3)
     (moved .move-jobs-down .ensures) (cleared .clear-jobs .ensures)

@@ -7,10 +7,7 @@ use Rattle.part_jobwords.proofs.changing.mark_sent.Tie as tie
 
 returns : tie.Need-returns
 returns c =
-    let cleared = c .before .before in
-    let sent = cleared .before .before .before .before in
-    let entry = sent .before .before .before .before in
-    let A = entry .args in
+    let cleared : tie.After-clear-jobs = search in let sent : tie.After-set-marks = search in let entry : tie.Start = search in let A = entry .args in
     sent-front (A .w .now) (sent .set-marks .last .0) _ (A .n) (omega arith) (omega arith) (sent .set-marks .ensures) (cleared .clear-jobs .ensures)
 
 pub mark-sent-spec : {M : Type 1} → statement M

@@ -26,11 +26,9 @@ loop-holds c =
     (omega arith, sent-none (entry .args .w .now) (omega arith) (entry .pre .3), refl)
 
 loop-again : tie.Need-loop-again Inv-loop μ-loop
-loop-again c =
-    let stored = c .before .before in
-    let turn = stored .before .before .before in
-    let L = turn .loop in
-    let W = turn .before .before .args .w .now in
+loop-again c = let entry : tie.Start Inv-loop μ-loop = search in let stored : tie.After-write-sent Inv-loop μ-loop = search in
+    let turn : tie.At-loop Inv-loop μ-loop = search in let L = turn .loop in
+    let W = entry .args .w .now in
     let js = jobsOf (heldJobs (wordIn W)) in
     let held = held-jobs (wordIn W) (omega arith) in
     let more = sent-more W (L .w) _ (L .k) js (omega arith) (omega (arith, held)) (L .inv .1) in
@@ -38,10 +36,10 @@ loop-again c =
     (omega arith, next, omega arith)
 
 returns : tie.Need-returns Inv-loop μ-loop
-returns c =
+returns c = let entry : tie.Start Inv-loop μ-loop = search in
     let turn = c .before in
     let L = turn .loop in
-    let e : L .k ≡ turn .before .before .args .n = omega arith in
+    let e : L .k ≡ entry .args .n = omega arith in
     rw (← e) (L .inv .1)
 
 pub set-marks-spec : {M : Type 1} → statement M

@@ -11,15 +11,11 @@ clear-jobs-requires : tie.Need-clear-jobs-requires
 clear-jobs-requires c κs = simp length-set (omega arith, omega arith)
 
 same-length : tie.Need-same-length
-same-length c =
-    let cleared = c .before .before in
-    let entry = cleared .before .before .before .before in
+same-length c = let cleared : tie.After-clear-jobs = search in let entry : tie.Start = search in
     omega (arith, stored-length (entry .args .w .now) _ clockAt _ _ _ (cleared .clear-jobs .ensures))
 
 returns : tie.Need-returns
-returns c =
-    let cleared = c .before .before in
-    let entry = cleared .before .before .before .before in
+returns c = let cleared : tie.After-clear-jobs = search in let entry : tie.Start = search in
     let A = entry .args in
     clock-front (A .w .now) _ (A .clock) (omega arith) (omega arith) (entry .pre .2) (cleared .clear-jobs .ensures)
 

@@ -12,27 +12,21 @@ use Rattle.part_jobwords.proofs.reading.add_batch.Statement.{statement}
 use Rattle.part_jobwords.proofs.reading.add_batch.Tie as tie
 
 add-next : tie.Need-add-next
-add-next c =
-    let ruled = c .before .before in
-    let gap = ruled .before .tray-gap .result in
-    let entry = ruled .before .before .before in
+add-next c = let gap-read : tie.After-tray-gap = search in let ruled : tie.After-batch-rule = search in let entry : tie.Start = search in
     let A = entry .args in
     omega (
       arith,
       ap (λ (m : Maybe). m .count) (ruled .batch-rule .ensures),
-      batch-few gap (A .batch) (A .last) (jobsOf (heldJobs (wordIn (A .w .now)))),
+      batch-few (gap-read .tray-gap .result) (A .batch) (A .last) (jobsOf (heldJobs (wordIn (A .w .now)))),
       entry .pre .0 .fits,
     )
 
 returns : tie.Need-returns
 returns c =
-    let ruled = c .before .before in
-    let gap = ruled .before .tray-gap in
-    let entry = ruled .before .before .before in
-    let A = entry .args in
+    let gap : tie.After-tray-gap = search in let ruled : tie.After-batch-rule = search in let entry : tie.Start = search in let A = entry .args in
     let js = jobsOf (heldJobs (wordIn (A .w .now))) in
     stored (A .rules) (ruled .batch-rule .result) (batchRules (trayGap (A .settings)) (A .batch) (A .last) js) (entry .pre .0)
-    (ruled .batch-rule .ensures ∙ ap (λ (d : ℕ). maybeFrom (batchRules d (A .batch) (A .last) js)) (gap .ensures))
+    (ruled .batch-rule .ensures ∙ ap (λ (d : ℕ). maybeFrom (batchRules d (A .batch) (A .last) js)) (gap .tray-gap .ensures))
     (batch-few (trayGap (A .settings)) (A .batch) (A .last) js)
 
 pub add-batch-spec : {M : Type 1} → statement M

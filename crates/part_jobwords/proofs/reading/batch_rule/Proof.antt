@@ -9,25 +9,24 @@ use Rattle.part_jobwords.proofs.reading.batch_rule.Statement.{statement
 use Rattle.part_jobwords.proofs.reading.batch_rule.Tie as tie
 
 returns : tie.Need-returns
-returns c = let A = c .before .before .before .args in
+returns c = let entry : tie.Start = search in let A = entry .args in
     c .no-rule .ensures ∙ ap maybeFrom (batch-none (A .d) (A .batch) (A .last) (jobsOf (heldJobs (wordIn (A .w .now)))) (c .before .if1 .taken))
 
 returns-2 : tie.Need-returns-2
-returns-2 c = let A = c .before .before .before .before .before .args in
+returns-2 c = let end-read : tie.After-newest-end = search in let tested : tie.Else1 = search in let entry : tie.Start = search in
     c .no-rule2 .ensures
     ∙ ap maybeFrom
-    (end-none (A .d) (A .last) (c .before .before .newest-end .result) (c .before .if2 .taken)
-    ∙ c .before .before .newest-end .ensures (A .d) (A .last)
-    ∙ batch-some (A .d) (A .batch) (A .last) (jobsOf (heldJobs (wordIn (A .w .now)))) (c .before .before .before .if1 .left))
+    (end-none (entry .args .d) (entry .args .last) (end-read .newest-end .result) (c .before .if2 .taken)
+    ∙ end-read .newest-end .ensures (entry .args .d) (entry .args .last)
+    ∙ batch-some (entry .args .d) (entry .args .batch) (entry .args .last) (jobsOf (heldJobs (wordIn (entry .args .w .now)))) (tested .if1 .left))
 
 returns-3 : tie.Need-returns-3
-returns-3 c = let A = c .before .before .before .before .before .args in
-    let end = c .before .before .newest-end .result in
+returns-3 c = let end-read : tie.After-newest-end = search in let tested : tie.Else1 = search in let entry : tie.Start = search in
     c .one-rule .ensures
     ∙ ap maybeFrom
-    (end-at (A .d) (A .last) end (omega arith)
-    ∙ c .before .before .newest-end .ensures (A .d) (A .last)
-    ∙ batch-some (A .d) (A .batch) (A .last) (jobsOf (heldJobs (wordIn (A .w .now)))) (c .before .before .before .if1 .left))
+    (end-at (entry .args .d) (entry .args .last) (end-read .newest-end .result) (omega arith)
+    ∙ end-read .newest-end .ensures (entry .args .d) (entry .args .last)
+    ∙ batch-some (entry .args .d) (entry .args .batch) (entry .args .last) (jobsOf (heldJobs (wordIn (entry .args .w .now)))) (tested .if1 .left))
 
 pub batch-rule-spec : {M : Type 1} → statement M
 batch-rule-spec =

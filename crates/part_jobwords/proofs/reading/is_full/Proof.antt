@@ -13,25 +13,16 @@ use Rattle.part_jobwords.proofs.reading.is_full.Statement.{statement}
 use Rattle.part_jobwords.proofs.reading.is_full.Tie as tie
 
 returns : tie.Need-returns
-returns c =
-    let entry = c .before .before in
-    let A = entry .args in
+returns c = let entry : tie.Start = search in let A = entry .args in
     let w = wordIn (A .w .now) in
     let held = held-jobs w (entry .pre .1 .count) in
     λ s e. full-jobs s (jobsOf (heldJobs w)) e (A .m) (omega (arith, held))
 
-add-result : tie.Need-add-result
-add-result c =
-    let entry = c .before .before in
-    omega (arith, entry .pre .1 .points)
-
 returns-2 : tie.Need-returns-2
-returns-2 c =
-    let entry = c .before .before in
-    let A = entry .args in
+returns-2 c = let entry : tie.Start = search in let A = entry .args in
     let w = wordIn (A .w .now) in
     let held = held-jobs w (entry .pre .1 .count) in
     λ s e. ap (λ (x : ℕ). ltb mostPoints (x + A .m)) (entry .pre .2) ∙ full-points s (jobsOf (heldJobs w)) e (A .m) (omega (arith, held))
 
 pub is-full-spec : {M : Type 1} → statement M
-is-full-spec = tie.close (tie.spec (λ c. search needs) (λ c. search needs) returns (λ c. search needs) add-result returns-2)
+is-full-spec = tie.close (tie.spec (λ c. search needs) (λ c. search needs) returns (λ c. search needs) (λ c. omega arith) returns-2)

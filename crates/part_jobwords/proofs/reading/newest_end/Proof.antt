@@ -28,24 +28,25 @@ loop-holds : tie.Need-loop-holds Inv-loop μ-loop
 loop-holds c = let A = c .before .before .args in
     (omega arith, λ d last. newest-start d (A .batch) last 1 (jobsOf (heldJobs (wordIn (A .w .now)))), omega arith, omega arith)
 
-job-at-requires : tie.Need-job-at-requires Inv-loop μ-loop
-job-at-requires c κs = omega (arith, c .before .before .before .before .pre .1 .count)
-
 add-x : tie.Need-add-x Inv-loop μ-loop
 unfolding total
-add-x c = let w = wordIn (c .before .before .before .before .before .before .args .w .now) in
-    let next = job-next w (c .before .before .before .before .before .before .pre .1 .count) (c .before .before .before .loop .k) _ (c .before .before .loop-test .taken) (c .before .job-at .ensures) in
-    omega (arith, ap total next, c .before .before .before .before .before .before .pre .1 .points)
+add-x c = let at-loop : tie.At-loop Inv-loop μ-loop = search in let entry : tie.Start Inv-loop μ-loop = search in
+    let w = wordIn (entry .args .w .now) in
+    let next = job-next w (entry .pre .1 .count) (at-loop .loop .k) _ (c .before .before .loop-test .taken) (c .before .job-at .ensures) in
+    omega (arith, ap total next)
 
 loop-again : tie.Need-loop-again Inv-loop μ-loop
 unfolding total
-loop-again c = let w = wordIn (c .before .before .before .before .before .before .before .before .args .w .now) in
-    let b = c .before .before .before .before .before .before .before .before .args .batch in
-    let L = c .before .before .before .before .before .loop in
-    let next = job-next w (c .before .before .before .before .before .before .before .before .pre .1 .count) (L .k) _ (c .before .before .before .before .loop-test .taken) (c .before .before .before .job-at .ensures) in (
+loop-again c = let job-found : tie.After-job-at Inv-loop μ-loop = search in let turn : tie.In-loop Inv-loop μ-loop = search in
+    let at-loop : tie.At-loop Inv-loop μ-loop = search in let entry : tie.Start Inv-loop μ-loop = search in
+    let w = wordIn (entry .args .w .now) in
+    let b = entry .args .batch in
+    let L = at-loop .loop in
+    let next = job-next w (entry .pre .1 .count) (L .k) _ (turn .loop-test .taken) (job-found .job-at .ensures) in (
       omega arith,
       λ d last.
-          newest-next d b last (L .x) (c .before .before .before .job-at .result) (drop (L .k + 1) (jobsOf (heldJobs w))) (L .found) (c .before .end-in .result) (c .or-else .result) (L .inv .3) (c .before .end-in .ensures) (c .or-else .ensures)
+          newest-next d b last (L .x) (job-found .job-at .result) (drop (L .k + 1) (jobsOf (heldJobs w))) (L .found) (c .before .end-in .result)
+          (c .or-else .result) (L .inv .3) (c .before .end-in .ensures) (c .or-else .ensures)
           ∙ ap (λ (l : List Job). search-from d b last (L .x) l (L .found)) (sym next)
           ∙ L .inv .1 d last,
       omega (arith, ap total next),
@@ -53,17 +54,18 @@ loop-again c = let w = wordIn (c .before .before .before .before .before .before
     )
 
 returns : tie.Need-returns Inv-loop μ-loop
-returns c = let w = wordIn (c .before .before .before .before .args .w .now) in
-    let b = c .before .before .before .before .args .batch in
+returns c = let entry : tie.Start Inv-loop μ-loop = search in
+    let w = wordIn (entry .args .w .now) in
+    let b = entry .args .batch in
     let L = c .before .loop in
     λ d last.
     sym (newest-over d b last (L .x) (L .found))
-    ∙ ap (λ (l : List Job). search-from d b last (L .x) l (L .found)) (sym (job-over w (c .before .before .before .before .pre .1 .count) (L .k) (c .loop-test .left)))
+    ∙ ap (λ (l : List Job). search-from d b last (L .x) l (L .found)) (sym (job-over w (entry .pre .1 .count) (L .k) (c .loop-test .left)))
     ∙ L .inv .1 d last
 
 pub newest-end-spec : {M : Type 1} → statement M
 newest-end-spec =
     tie.close
     (tie.spec
-    Inv-loop μ-loop (λ c. omega arith) (λ c. omega arith) loop-holds job-at-requires add-x (λ c κs. search needs) (λ c κs. search needs)
+    Inv-loop μ-loop (λ c. omega arith) (λ c. omega arith) loop-holds (λ c κs. omega arith) add-x (λ c κs. search needs) (λ c κs. search needs)
     (λ c. omega arith) (λ c. omega arith) loop-again returns)

@@ -26,31 +26,27 @@ loop-holds : tie.Need-loop-holds Inv-loop μ-loop
 loop-holds c = (omega arith, omega arith, c .before .before .pre .2, omega arith)
 
 add-sum : tie.Need-add-sum Inv-loop μ-loop
-add-sum c =
-    let test = c .before .before in
-    let L = test .before .loop in
-    let entry = test .before .before .before .before in
-    let next = job-next (wordIn (entry .args .w .now)) (entry .pre .1) (L .k) _ (test .loop-test .taken) (c .before .job-at .ensures) in
-    let few = subst (All FewPoints) next (L .inv .2) in
+add-sum c = let at-loop : tie.At-loop Inv-loop μ-loop = search in let test : tie.In-loop Inv-loop μ-loop = search in
+    let entry : tie.Start Inv-loop μ-loop = search in
+    let next = job-next (wordIn (entry .args .w .now)) (entry .pre .1) (at-loop .loop .k) _ (test .loop-test .taken) (c .before .job-at .ensures) in
+    let few = subst (All FewPoints) next (at-loop .loop .inv .2) in
     omega (arith, few .0)
 
 loop-again : tie.Need-loop-again Inv-loop μ-loop
 unfolding total
-loop-again c =
-    let test = c .before .before in
-    let L = test .before .loop in
-    let entry = test .before .before .before .before in
-    let next = job-next (wordIn (entry .args .w .now)) (entry .pre .1) (L .k) _ (test .loop-test .taken) (c .before .job-at .ensures) in
-    let few = subst (All FewPoints) next (L .inv .2) in
+loop-again c = let at-loop : tie.At-loop Inv-loop μ-loop = search in let test : tie.In-loop Inv-loop μ-loop = search in
+    let entry : tie.Start Inv-loop μ-loop = search in
+    let next = job-next (wordIn (entry .args .w .now)) (entry .pre .1) (at-loop .loop .k) _ (test .loop-test .taken) (c .before .job-at .ensures) in
+    let few = subst (All FewPoints) next (at-loop .loop .inv .2) in
     (omega arith, omega (arith, ap total next), few .1, omega (arith, few .0))
 
 returns : tie.Need-returns Inv-loop μ-loop
 unfolding total
 returns c =
     let L = c .before .loop in
-    let entry = c .before .before .before .before in
+    let entry : tie.Start Inv-loop μ-loop = search in
     let over = job-over (wordIn (entry .args .w .now)) (entry .pre .1) (L .k) (c .loop-test .left) in
-    omega (arith, L .inv .1, ap total over)
+    omega (arith, ap total over)
 
 pub points-in-spec : {M : Type 1} → statement M
 points-in-spec =

@@ -14,10 +14,10 @@ returns c = let A = c .before .before .args in
     c .no-rule .ensures ∙ ap (λ (b : Bool). maybeFrom (startRule (A .time) (A .x) b)) (sym (c .before .if1 .taken))
 
 returns-2 : tie.Need-returns-2
-returns-2 c = let A = c .before .before .before .args in
+returns-2 c = let entry : tie.Start = search in
     c .one-rule .ensures
     ∙ ap (λ (r : Rule). maybeFrom (r ∷ [])) (c .before .not-before .ensures)
-    ∙ ap (λ (b : Bool). maybeFrom (startRule (A .time) (A .x) b)) (sym (c .before .before .if1 .left))
+    ∙ ap (λ (b : Bool). maybeFrom (startRule (entry .args .time) (entry .args .x) b)) (sym (c .before .before .if1 .left))
 
 pub start-rule-spec : {M : Type 1} → statement M
 start-rule-spec = tie.close (tie.spec (λ c κs. search needs) returns (λ c κs. search needs) (λ c κs. search needs) returns-2)

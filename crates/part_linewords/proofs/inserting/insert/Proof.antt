@@ -13,12 +13,8 @@ same-length c = simp length-set (omega arith)
 
 returns : tie.Need-returns
 returns c =
-    let stored = c .before .before in
-    let moved = stored .before .before .before .before in
-    let entry = moved .before .before .before .before in
-    let A = entry .args in
-    let p = entry .pre in
-    let W = A .w .now in
+    let stored : tie.After-write-use = search in let moved : tie.After-move-uses-up = search in let entry : tie.Start = search in let A = entry .args in
+    let p = entry .pre in let W = A .w .now in
     let n = wordIn W (A .at) in
     let up = moved .move-uses-up .ensures in
     let there = stored .write-use .ensures in (

@@ -10,17 +10,12 @@ clear-uses-requires : tie.Need-clear-uses-requires
 clear-uses-requires c κs = simp length-set (omega arith, omega arith)
 
 same-length : tie.Need-same-length
-same-length c =
-    let stayed = c .before .before .before .before .before .before in
-    let A = stayed .before .before .before .before .args in
-    omega (arith, length-set (stayed .stay-uses .last .0) (A .at) (stayed .stay-uses .result))
+same-length c = let entry : tie.Start = search in let stayed : tie.After-stay-uses = search in
+    omega (arith, length-set (stayed .stay-uses .last .0) (entry .args .at) (stayed .stay-uses .result))
 
 returns : tie.Need-returns
-returns c =
-    let cleared = c .before .before in
-    let stayed = cleared .before .before .before .before in
-    let A = stayed .before .before .before .before .args in
-    let e = stayed .stay-uses .ensures in
+returns c = let entry : tie.Start = search in let cleared : tie.After-clear-uses = search in let stayed : tie.After-stay-uses = search in
+    let A = entry .args in let e = stayed .stay-uses .ensures in
     stay-put (A .f) (A .m) (A .w .now) (stayed .stay-uses .last .0) _ (A .at) (stayed .stay-uses .result) (omega arith) (omega arith)
     (omega arith) (e .0) (e .1 .1) (cleared .clear-uses .ensures)
 

@@ -21,32 +21,25 @@ loop-holds c = (omega arith, overwritten-none _ _ _, refl)
 
 stay-line-requires : tie.Need-stay-line-requires Inv-loop μ-loop
 stay-line-requires c κs =
-    let turn = c .before .before .before in
-    let entry = turn .before .before in
-    let A = entry .args in
-    let L = turn .loop in
+    let turn : tie.At-loop Inv-loop μ-loop = search in let entry : tie.Start Inv-loop μ-loop = search in let A = entry .args in let L = turn .loop in
     let stays = staysOf (A .f) (A .m) in
     let few = lines-few stays (A .w .now) (L .w) (L .k) _ (L .inv .1) (omega arith) (c .line-start .ensures) (entry .pre .1 .0) in
-    (omega (arith, c .line-start .ensures), few, omega arith)
+    (omega arith, few, omega arith)
 
 loop-again : tie.Need-loop-again Inv-loop μ-loop
-loop-again c =
-    let stayed = c .before .before in
-    let start = stayed .before in
-    let turn = start .before .before .before in
-    let A = turn .before .before .args in
+loop-again c = let entry : tie.Start Inv-loop μ-loop = search in let stayed : tie.After-stay-line Inv-loop μ-loop = search in
+    let start : tie.After-line-start Inv-loop μ-loop = search in let turn : tie.At-loop Inv-loop μ-loop = search in let A = entry .args in
     let L = turn .loop in
     let stays = staysOf (A .f) (A .m) in
     let next = lines-turn stays (A .w .now) (L .w) _ (L .k) _ (L .inv .1) (omega arith) (start .line-start .ensures) (stayed .stay-line .ensures) in
     (omega arith, next, omega arith)
 
 returns : tie.Need-returns Inv-loop μ-loop
-returns c =
+returns c = let entry : tie.Start Inv-loop μ-loop = search in
     let turn = c .before in
-    let A = turn .before .before .args in
     let L = turn .loop in
-    let all = stayed-all (A .f) (A .m) (linesRead (wordIn (A .w .now))) in
-    lines-done (staysOf (A .f) (A .m)) (A .w .now) (L .w) (L .k) _ (L .inv .1) (omega arith) all
+    let all = stayed-all (entry .args .f) (entry .args .m) (linesRead (wordIn (entry .args .w .now))) in
+    lines-done (staysOf (entry .args .f) (entry .args .m)) (entry .args .w .now) (L .w) (L .k) _ (L .inv .1) (omega arith) all
 
 pub stay-lines-spec : {M : Type 1} → statement M
 stay-lines-spec =

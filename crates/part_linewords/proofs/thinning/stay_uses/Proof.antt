@@ -28,20 +28,13 @@ loop-holds c =
     (omega arith, thin-size (A .f) (A .m) (A .w .now) (A .at), thin-none (A .f) (A .m) (A .w .now) (A .at), refl, omega arith)
 
 add-next : tie.Need-add-next Inv-loop μ-loop
-add-next c =
-    let read = c .before .before .before .before .before .before in
-    let A = read .before .before .before .before .before .args in
-    omega (arith, c .stay-count .ensures, few-stay (A .f) (A .m) (read .use-at .result ∷ []))
+add-next c = let entry : tie.Start Inv-loop μ-loop = search in let read : tie.After-use-at Inv-loop μ-loop = search in
+    omega (arith, few-stay (entry .args .f) (entry .args .m) (read .use-at .result ∷ []))
 
 loop-again : tie.Need-loop-again Inv-loop μ-loop
-loop-again c =
-    let written = c .before .before .before in
-    let stayed = written .before in
-    let read = stayed .before .before in
-    let turn = read .before .before .before in
-    let A = turn .before .before .args in
-    let L = turn .loop in
-    let u = read .use-at .result in
+loop-again c = let entry : tie.Start Inv-loop μ-loop = search in let written : tie.After-write-use Inv-loop μ-loop = search in
+    let stayed : tie.After-stay-use Inv-loop μ-loop = search in let read : tie.After-use-at Inv-loop μ-loop = search in
+    let turn : tie.At-loop Inv-loop μ-loop = search in let A = entry .args in let L = turn .loop in let u = read .use-at .result in
     let next =
     thin-more (A .f) (A .m) (A .w .now) (A .at) (L .w) (written .write-use .last .0) (L .next) (L .k) u (stayed .stay-use .result)
     (c .stay-count .result) (omega arith) (omega arith) (L .inv .1) (L .inv .2) (read .use-at .ensures) (stayed .stay-use .ensures)
@@ -50,15 +43,14 @@ loop-again c =
       next .0,
       next .1,
       omega arith,
-      omega (arith, c .stay-count .ensures, few-stay (A .f) (A .m) (u ∷ [])),
+      omega (arith, few-stay (A .f) (A .m) (u ∷ [])),
     )
 
 returns : tie.Need-returns Inv-loop μ-loop
-returns c =
+returns c = let entry : tie.Start Inv-loop μ-loop = search in
     let turn = c .before in
-    let A = turn .before .before .args in
     let L = turn .loop in
-    let e : L .k ≡ A .count = omega arith in
+    let e : L .k ≡ entry .args .count = omega arith in
     (rw (← e) (L .inv .1), (omega arith, rw (← e) (L .inv .2)))
 
 pub stay-uses-spec : {M : Type 1} → statement M

@@ -6,10 +6,7 @@ use Rattle.part_linewords.proofs.tidying.tidy_line.Statement.{statement
 use Rattle.part_linewords.proofs.tidying.tidy_line.Tie as tie
 
 returns : tie.Need-returns
-returns c =
-    let cleared = c .before .before in
-    let entry = cleared .before .before .before .before in
-    let A = entry .args in
+returns c = let cleared : tie.After-clear-uses = search in let entry : tie.Start = search in let A = entry .args in
     tidy-put (A .w .now) _ (A .at) (omega arith) (omega arith) (cleared .clear-uses .ensures)
 
 pub tidy-line-spec : {M : Type 1} → statement M

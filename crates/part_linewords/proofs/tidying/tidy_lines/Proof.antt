@@ -20,29 +20,23 @@ loop-holds : tie.Need-loop-holds Inv-loop μ-loop
 loop-holds c = (omega arith, overwritten-none _ _ _, refl)
 
 tidy-line-requires : tie.Need-tidy-line-requires Inv-loop μ-loop
-tidy-line-requires c κs =
-    let turn = c .before .before .before in
-    let entry = turn .before .before in
-    let L = turn .loop in
+tidy-line-requires c κs = let turn : tie.At-loop Inv-loop μ-loop = search in let entry : tie.Start Inv-loop μ-loop = search in let L = turn .loop in
     let few = lines-few tidied (entry .args .w .now) (L .w) (L .k) _ (L .inv .1) (omega arith) (c .line-start .ensures) (entry .pre .1) in
-    (omega (arith, c .line-start .ensures), few)
+    (omega arith, few)
 
 loop-again : tie.Need-loop-again Inv-loop μ-loop
-loop-again c =
-    let tidied-line = c .before .before in
-    let start = tidied-line .before in
-    let turn = start .before .before .before in
-    let W = turn .before .before .args .w .now in
+loop-again c = let entry : tie.Start Inv-loop μ-loop = search in let tidied-line : tie.After-tidy-line Inv-loop μ-loop = search in
+    let start : tie.After-line-start Inv-loop μ-loop = search in let turn : tie.At-loop Inv-loop μ-loop = search in
+    let W = entry .args .w .now in
     let L = turn .loop in
     let next = lines-turn tidied W (L .w) _ (L .k) _ (L .inv .1) (omega arith) (start .line-start .ensures) (tidied-line .tidy-line .ensures) in
     (omega arith, next, omega arith)
 
 returns : tie.Need-returns Inv-loop μ-loop
-returns c =
+returns c = let entry : tie.Start Inv-loop μ-loop = search in
     let turn = c .before in
     let L = turn .loop in
-    let w = turn .before .before .args .w .now in
-    lines-done tidied w (L .w) (L .k) _ (L .inv .1) (omega arith) (tidied-all (linesRead (wordIn w)))
+    lines-done tidied (entry .args .w .now) (L .w) (L .k) _ (L .inv .1) (omega arith) (tidied-all (linesRead (wordIn (entry .args .w .now))))
 
 pub tidy-lines-spec : {M : Type 1} → statement M
 tidy-lines-spec =

@@ -24,24 +24,22 @@ loop-holds : tie.Need-loop-holds Inv-loop μ-loop
 loop-holds c = (omega arith, refl)
 
 loop-again : tie.Need-loop-again Inv-loop μ-loop
-loop-again c =
+loop-again c = let entry : tie.Start Inv-loop μ-loop = search in
     let start = c .before in
-    let inside = start .before in
-    let turn = inside .before in
-    let A = turn .before .before .args in
-    let w = wordIn (A .w .now) in
+    let inside : tie.In-loop Inv-loop μ-loop = search in
+    let turn : tie.At-loop Inv-loop μ-loop = search in
+    let w = wordIn (entry .args .w .now) in
     let L = turn .loop in
-    let one = c .is-line-sized .ensures ∙ ap (λ (at : ℕ). sizedLine (A .n) (lineRead w at)) (start .line-start .ensures) in
-    (omega arith, all-next (sizedLine (A .n)) (linesRead w) (L .k) (L .ok) _ _ (L .inv .1) (lines-next w (L .k) (inside .loop-test .taken)) one)
+    let one = c .is-line-sized .ensures ∙ ap (λ (at : ℕ). sizedLine (entry .args .n) (lineRead w at)) (start .line-start .ensures) in
+    (omega arith, all-next (sizedLine (entry .args .n)) (linesRead w) (L .k) (L .ok) _ _ (L .inv .1) (lines-next w (L .k) (inside .loop-test .taken)) one)
 
 returns : tie.Need-returns Inv-loop μ-loop
-returns c =
+returns c = let entry : tie.Start Inv-loop μ-loop = search in
     let turn = c .before in
-    let A = turn .before .before .args in
     let L = turn .loop in
-    let w = wordIn (A .w .now) in
+    let w = wordIn (entry .args .w .now) in
     let over : length (linesRead w) ≤ L .k = omega (arith, build-length (lineAt w) resources) in
-    all-end (sizedLine (A .n)) (linesRead w) (L .k) (L .ok) (L .inv .1) (drop-of-length-le (linesRead w) over)
+    all-end (sizedLine (entry .args .n)) (linesRead w) (L .k) (L .ok) (L .inv .1) (drop-of-length-le (linesRead w) over)
 
 pub are-lines-sized-spec : {M : Type 1} → statement M
 are-lines-sized-spec =

@@ -26,9 +26,9 @@ loop-holds c = (omega arith, refl)
 loop-again : tie.Need-loop-again Inv-loop μ-loop
 loop-again c =
     let read = c .before in
-    let inside = read .before in
-    let turn = inside .before in
-    let entry = turn .before .before .before in
+    let inside : tie.In-loop Inv-loop μ-loop = search in
+    let turn : tie.At-loop Inv-loop μ-loop = search in
+    let entry : tie.Start Inv-loop μ-loop = search in
     let A = entry .args in
     let w = wordIn (A .w .now) in
     let L = turn .loop in
@@ -38,7 +38,7 @@ loop-again c =
 returns : tie.Need-returns Inv-loop μ-loop
 returns c =
     let turn = c .before in
-    let entry = turn .before .before .before in
+    let entry : tie.Start Inv-loop μ-loop = search in
     let A = entry .args in
     let w = wordIn (A .w .now) in
     let L = turn .loop in

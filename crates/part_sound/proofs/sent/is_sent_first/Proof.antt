@@ -24,14 +24,14 @@ loop-holds c = (omega arith, refl)
 
 loop-again : tie.Need-loop-again Inv-loop μ-loop
 unfolding sentFrom
-loop-again c = let entry = c .before .before .before .before .before .before .before in
-    let L = c .before .before .before .before .loop in
-    let next = job-next (wordIn (entry .args .w .now)) (entry .pre .1) (L .k) _ (c .before .before .before .loop-test .taken) (c .before .before .job-at .ensures) in
+loop-again c = let turn : tie.In-loop Inv-loop μ-loop = search in let at-loop : tie.At-loop Inv-loop μ-loop = search in
+    let entry : tie.Start Inv-loop μ-loop = search in let L = at-loop .loop in
+    let next = job-next (wordIn (entry .args .w .now)) (entry .pre .1) (L .k) _ (turn .loop-test .taken) (c .before .before .job-at .ensures) in
     (omega arith, flag-next (L .ok) _ _ (rw next at (L .inv .1)))
 
 returns : tie.Need-returns Inv-loop μ-loop
 unfolding sentFrom
-returns c = let entry = c .before .before .before .before in
+returns c = let entry : tie.Start Inv-loop μ-loop = search in
     let L = c .before .loop in
     flag-end (L .ok) (rw (job-over (wordIn (entry .args .w .now)) (entry .pre .1) (L .k) (c .loop-test .left)) at (L .inv .1))
 

@@ -21,13 +21,14 @@ loop-holds c = (omega arith, allBelow-none _)
 
 loop-again : tie.Need-loop-again Inv-loop μ-loop
 unfolding standStill
-loop-again c = let L = c .before .before .before .before .loop in
-    let t = c .before .before .before .before .before .before .args .t .now in
-    let i : ℕ = c .before .before .before .before .before .before .args .x + L .k in
+loop-again c = let at-loop : tie.At-loop Inv-loop μ-loop = search in let entry : tie.Start Inv-loop μ-loop = search in let L = at-loop .loop in
+    let t = entry .args .t .now in
+    let i : ℕ = entry .args .x + L .k in
     (omega arith, allBelow-next _ (L .k) (L .ok) _ (L .inv .1) (rw (origin-row t i, origin-column t i) at (c .cancel .ensures)))
 
 returns : tie.Need-returns Inv-loop μ-loop
-returns c = let e : c .before .loop .k ≡ c .before .before .before .args .m = omega arith in
+returns c = let entry : tie.Start Inv-loop μ-loop = search in
+    let e : c .before .loop .k ≡ entry .args .m = omega arith in
     rw e at (c .before .loop .inv .1)
 
 pub stand-still-spec : {M : Type 1} → statement M

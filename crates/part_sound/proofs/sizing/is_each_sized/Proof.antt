@@ -24,15 +24,15 @@ loop-holds : tie.Need-loop-holds Inv-loop μ-loop
 loop-holds c = (omega arith, refl)
 
 loop-again : tie.Need-loop-again Inv-loop μ-loop
-loop-again c = let entry = c .before .before .before .before .before .before in
-    let L = c .before .before .before .loop in
+loop-again c = let at-loop : tie.At-loop Inv-loop μ-loop = search in let entry : tie.Start Inv-loop μ-loop = search in let L = at-loop .loop in
     let w = wordIn (entry .args .w .now) in (
       omega arith,
-      all-next sizedJob (jobsOf (heldJobs w)) (L .k) (L .ok) _ _ (L .inv .1) (job-next w (entry .pre .1) (L .k) _ (c .before .before .loop-test .taken) (c .before .job-at .ensures)) (c .is-job-sized .ensures),
+      all-next sizedJob (jobsOf (heldJobs w)) (L .k) (L .ok) _ _ (L .inv .1)
+          (job-next w (entry .pre .1) (L .k) _ (c .before .before .loop-test .taken) (c .before .job-at .ensures)) (c .is-job-sized .ensures),
     )
 
 returns : tie.Need-returns Inv-loop μ-loop
-returns c = let entry = c .before .before .before .before in
+returns c = let entry : tie.Start Inv-loop μ-loop = search in
     let L = c .before .loop in
     let w = wordIn (entry .args .w .now) in
     all-end sizedJob (jobsOf (heldJobs w)) (L .k) (L .ok) (L .inv .1) (job-over w (entry .pre .1) (L .k) (c .loop-test .left))
