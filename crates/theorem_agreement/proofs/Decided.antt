@@ -5,7 +5,7 @@
 --   clock-decided   clock, past 19: the same with its rules, and 20
 --   send-decided    send, past 18: always accepted, with a timetable left, and each point sent at its least time of before
 --   after-20        after 20, sending the newest job and repeating the clock call succeeds
---   plan-14         14, past the reading: exactly when there are 16 jobs or the points would pass 64
+--   plan-14         14, of any offer: exactly when it is past 1 to 13 and there are 16 jobs or the points would pass 64;  read-14: past them
 -- Retire's are in TwentyOne (when it is accepted and when 21) and Room (what it leaves).
 use mathlib.Core.Path.{_≡_, refl, sym, ap, subst, _∙_}
 use mathlib.Core.Logic.{_↔_, _⊎_}
@@ -16,7 +16,11 @@ use lib.ListN.{length, getD}
 use native.Mathlib.Omega.{arith}
 use borrow.Author.Tests.{le-leb}
 use Rattle.base_rulings.specs.declared.Ruling.the-variants.{Accepted}
-use Rattle.base_rulings.specs.Answer.{refuse}
+use Rattle.base_rulings.specs.declared.Cause.{Cause}
+use Rattle.base_rulings.specs.declared.Ruling.{Ruling}
+use Rattle.base_rulings.specs.declared.Ruling.the-variants.{Refused}
+use Rattle.base_rulings.specs.Answer.{refuse, numberOf}
+use Rattle.read_offer.specs.Offer.{factCheck}
 use Rattle.spec_plain.specs.Limits.{mostJobs, mostPoints}
 use Rattle.spec_plain.specs.declared.Rule.{Rule}
 use Rattle.spec_plain.specs.Plain.{Offer, State, Draft, total, newPoints, upperBound, bounds, drafted}
@@ -24,12 +28,14 @@ use Rattle.spec_plain.specs.Plain.{unsentAt, unsentPoints, clockOk, clockState,
 use Rattle.spec_plain.specs.Rules.{KeepsAll}
 use Rattle.part_lines.specs.ArrayLists.{noJob}
 use Rattle.part_lines.proofs.JobLaws.{unsent-at}
-use Rattle.spec_rulebook.specs.Reading.{Reading, good, readingOf}
+use Rattle.spec_rulebook.specs.Reading.{Reading, bad, good, past, offerOf, readingOf}
+use Rattle.spec_rulebook.proofs.Reading.{reading-rules}
 use Rattle.spec_rulebook.specs.Book.{plan, send, clock, Plans, Reads, Step}
 use Rattle.part_boardwords.specs.Board.{Board}
 use Rattle.part_sound.specs.Sound.{Sound}
 use Rattle.part_sound.proofs.Soundness.{sound-of}
 use Rattle.part_settling.specs.Settled.{addedAll}
+use Rattle.call_board.specs.Ruled.{Ruled}
 use Rattle.call_board.specs.Boards.{stateOf}
 use Rattle.call_board.specs.Calls.{decided, heard, planned, sent, clocked}
 use Rattle.theorem_demands.specs.Sent.{newest}
@@ -37,6 +43,7 @@ use Rattle.theorem_demands.proofs.After20.{after20}
 use Rattle.theorem_demands.proofs.Step.{sim-keeps, sim-exists}
 use Rattle.theorem_agreement.specs.Abstract.{Shaped, livePoints, bookOf, Agreed}
 use Rattle.theorem_agreement.specs.Runs.{callRuled}
+use Rattle.theorem_agreement.specs.Demand2.{NoRoom, Full}
 use Rattle.theorem_agreement.specs.Timetables.{Timetable, Minimal, Decided, SetLeast}
 use Rattle.theorem_agreement.proofs.Parts.{parts-of, jobs-count}
 use Rattle.theorem_agreement.proofs.Books.{sound-sim}
@@ -44,7 +51,12 @@ use Rattle.theorem_agreement.proofs.Keeps.{planned-is, send-answered, c
 use Rattle.theorem_agreement.proofs.Agreement.{carried, call-agrees}
 use Rattle.theorem_agreement.proofs.Exact.{sim-minimal, passed, settled-decided}
 use Rattle.theorem_agreement.proofs.Sending.{sends-least}
+use Rattle.theorem_agreement.proofs.Early.{Early, check-early}
 use Rattle.theorem_agreement.proofs.Fourteen.{decided-14}
+
+-- a reading that stops is none that goes on
+bad-good : {c : Cause} {o : Offer} → bad c ≡ good o → ⊥
+bad-good e = let z : _≡_ {A = ℕ} 0 1 = cc in omega arith
 
 module _ (b : Board) (w : Shaped b) (s : Sound b) where
   pub sound-minimal : Minimal (Timetable b) b
@@ -100,16 +112,29 @@ module _ (b : Board) (w : Shaped b) (s : Sound b) where
       let same = sim-keeps (carried ans (out .0) y) (clock c) _ (moved .0) (moved .1) .0 in
       (ans .ruling ∙ both .0, clock-answered (sent b k .board) (ans .shaped) (ans .sound) c .ruling ∙ sym same ∙ both .1)
 
-  pub plan-14 :
+  -- of an offer that was read
+  read-14 :
       (p o : List ℕ) (offer : Offer) → readingOf (stateOf b) p o ≡ good offer
-      → (planned b p o .ruling ≡ refuse 14) ↔ ((b .jobs .count ≡ mostJobs) ⊎ (mostPoints < total (stateOf b .jobs) + newPoints offer))
+      → (planned b p o .ruling ≡ refuse 14) ↔ NoRoom (stateOf b) (newPoints offer)
   unfolding heard
-  plan-14 p o offer e =
+  read-14 p o offer e =
       let few = s .jobs in
       let is = jobs-count b w s in
       let heard-as : planned b p o ≡ decided b (drafted (stateOf b) offer) = planned-is b w s p o ∙ ap (heard b) e in
-      rw heard-as
-      (subst
-      (λ (k : ℕ). (decided b (drafted (stateOf b) offer) .ruling ≡ refuse 14) ↔ ((k ≡ mostJobs) ⊎ (mostPoints < total (stateOf b .jobs) + newPoints offer)))
-      is
-      (decided-14 b offer (omega (arith, is, few))))
+      rw heard-as (decided-14 b offer (omega (arith, is, few)))
+
+  pub plan-14 : (p o : List ℕ) → (planned b p o .ruling ≡ refuse 14) ↔ Full b p o
+  unfolding heard past
+  plan-14 p o = go (factCheck p o) (reading-rules (stateOf b) p o) (check-early p o)
+    where
+      go : (r : Ruling) → readingOf (stateOf b) p o ≡ past r (good (offerOf p o)) → Early r → (planned b p o .ruling ≡ refuse 14) ↔ Full b p o
+      go Accepted e x =
+          let read = read-14 p o (offerOf p o) e in (
+            λ q. record { offer = offerOf p o; reads = e; no-room = read .0 q },
+            λ f. read-14 p o (f .offer) (f .reads) .1 (f .no-room),
+          )
+      go (Refused c) e x =
+          let stops : planned b p o .ruling ≡ Refused c = ap (λ (a : Ruled). a .ruling) (planned-is b w s p o ∙ ap (heard b) e) in (
+            λ q. absurd (let low = x .low in omega (arith, low, ap numberOf (sym stops ∙ q))),
+            λ f. absurd (bad-good (sym e ∙ f .reads)),
+          )

@@ -2,7 +2,7 @@
 -- (Reported), lists of calls (Lists).
 use Rattle.read_offer.proofs.Right.{fact-check-right}
 use Rattle.theorem_agreement.specs.Demand2.{Demand2}
-use Rattle.theorem_agreement.proofs.Decided.{plan-decided, send-decided, clock-decided}
+use Rattle.theorem_agreement.proofs.Decided.{plan-decided, plan-14, send-decided, clock-decided}
 use Rattle.theorem_agreement.proofs.TwentyOne.{retire-decided}
 use Rattle.theorem_agreement.proofs.Reported.{row-tells}
 use Rattle.theorem_agreement.proofs.Lists.{agreement}
@@ -12,6 +12,7 @@ demand2 =
     record {
       facts = fact-check-right;
       plans = plan-decided;
+      fourteens = plan-14;
       reports = row-tells;
       sends = send-decided;
       clocks = clock-decided;

@@ -1,5 +1,5 @@
 -- Refusal 14, past the reading: there are 16 jobs, or the points would pass 64; and no other cause is 14.
---   NoRoom s n       so, of a state s and n new points;  full-to, full-of: the test says it
+--   full-to, full-of   the test says that there is no room
 --   Other q          placing stops with 15 or more;  placed-other shows it
 --   decided-14       what is decided is 14 exactly where there is no room
 use mathlib.Core.Path.{_≡_, refl, sym, ap, _∙_}
@@ -13,6 +13,7 @@ use native.Mathlib.Omega.{arith}
 use lib.Dec.{ltb, leb}
 use lib.ListN.{length}
 use borrow.Author.Tests.{lt-leb, le-ltb}
+use Rattle.theorem_agreement.specs.Demand2.{NoRoom}
 use Rattle.base_rulings.specs.declared.Ruling.the-variants.{Refused}
 use Rattle.base_rulings.specs.Answer.{plain, refuse, numberOf}
 use Rattle.spec_plain.specs.Limits.{mostJobs, mostPoints}
@@ -38,9 +39,6 @@ use Rattle.part_lines.proofs.DraftLaws.{within}
 use Rattle.part_boardwords.specs.Board.{Board}
 use Rattle.call_board.specs.Boards.{stateOf}
 use Rattle.call_board.specs.Calls.{settled, decided}
-
-abbrev pub NoRoom : State → ℕ → Type 0
-NoRoom s n = (length (s .jobs) ≡ mostJobs) ⊎ (mostPoints < total (s .jobs) + n)
 
 module _ (s : State) (n : ℕ) where
   full-to : length (s .jobs) ≤ mostJobs → full s n ≡ true → NoRoom s n

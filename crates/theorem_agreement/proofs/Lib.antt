@@ -9,6 +9,7 @@ pub mod Agreement
 pub mod Exact
 pub mod Sending
 pub mod Fourteen
+pub mod Early
 pub mod Six
 pub mod Refused
 pub mod Decided

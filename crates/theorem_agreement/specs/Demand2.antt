@@ -4,22 +4,25 @@
 --                 facts runs through the chain legally to the goal."
 --   PlansRight    "Past the format, fact and limit checks it is accepted exactly when some timetable keeps the standing rules and its own": the
 --                 board's timetables are those that keep the standing rules, and the offer's own are (a) to (e)
+--   NoRoom s n    there are 16 jobs on the state s, or the points would pass 64 with n more;  Full b p o: so, for an offer that is read
 --   ReportsRight  "and the earliest times reported are the least any such timetable has"
 --   Demand2       all of it, with the other calls, and the rulings over every list
 use mathlib.Core.Path.{_≡_}
-use mathlib.Core.Logic.{_↔_}
+use mathlib.Core.Logic.{_↔_, _⊎_}
 use mathlib.Core.Bool.{false}
 use mathlib.Core.List.{List, _++_}
 use Prim.Native.Nat.{ℕ, suc, _+_, _≤_, _<_}
 use lib.ListN.{length, getD}
 use Rattle.base_masks.specs.Mask.{share}
 use Rattle.base_rulings.specs.declared.Ruling.the-variants.{Accepted}
+use Rattle.base_rulings.specs.Answer.{refuse}
 use Rattle.read_facts.specs.Forward.{AllRun}
 use Rattle.read_plant.specs.Plant.{plantRuling}
 use Rattle.read_offer.specs.Offer.{knownOf, goalOf, chainOf, offerRuling, factCheck}
+use Rattle.spec_plain.specs.Limits.{mostJobs, mostPoints}
 use Rattle.spec_plain.specs.declared.Settings.{Settings}
 use Rattle.spec_plain.specs.declared.Rule.{Rule}
-use Rattle.spec_plain.specs.Plain.{Offer, State, Draft, upperBound, bounds, drafted, unsentPoints, sentState, clockState, starts}
+use Rattle.spec_plain.specs.Plain.{Offer, State, Draft, total, newPoints, upperBound, bounds, drafted, unsentPoints, sentState, clockState, starts}
 use Rattle.spec_plain.specs.Rules.{KeepsAll}
 use Rattle.spec_rulebook.specs.Reading.{good, readingOf}
 use Rattle.spec_rulebook.specs.Book.{Call}
@@ -39,6 +42,9 @@ FactsRight =
     (p o : List ℕ) → plantRuling p ≡ Accepted → offerRuling p o ≡ Accepted → share (knownOf o .pos) (knownOf o .neg) ≡ false
     → (factCheck p o ≡ Accepted) ↔ AllRun (knownOf o) (chainOf p o) (goalOf o)
 
+abbrev pub NoRoom : State → ℕ → Type 0
+NoRoom s n = (length (s .jobs) ≡ mostJobs) ⊎ (mostPoints < total (s .jobs) + n)
+
 -- Past 1 to 4, 6, 7 to 13 the offer is `offer`; past 14, 15 and 16 it brings m points and the rules rs, and `next` is the state to be
 abbrev pub PlansRight : Board → Type 0
 PlansRight b =
@@ -49,9 +55,16 @@ PlansRight b =
 abbrev pub ReportsRight : Board → Type 0
 ReportsRight b = (k : ℕ) → k < length (rowsOf b) → Tells b (suc k) (getD (rowsOf b) k noRow)
 
+-- 14: "There are 16 jobs, or the points would pass 64", for an offer that passes 1 to 4 and 7 to 13
+pub record Full (b : Board) (p o : List ℕ) : Type 0 where
+  pub offer : Offer
+  pub reads : readingOf (stateOf b) p o ≡ good offer
+  pub no-room : NoRoom (stateOf b) (newPoints offer)
+
 pub record Demand2 : Type 0 where
   pub facts : FactsRight
   pub plans : (b : Board) → Shaped b → Sound b → PlansRight b
+  pub fourteens : (b : Board) → Shaped b → Sound b → (p o : List ℕ) → (planned b p o .ruling ≡ refuse 14) ↔ Full b p o
   pub reports : (b : Board) → Shaped b → Sound b → ReportsRight b
   -- send, past 18: each point of the unsent jobs up to the place stands at its least time
   pub sends :

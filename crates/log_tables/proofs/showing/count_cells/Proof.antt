@@ -19,7 +19,7 @@ loop-holds : tie.Need-loop-holds Inv-loop μ-loop
 loop-holds c = (omega arith, none-yet _ _)
 
 -- in a turn of the loop: the cells of each board, the place that is looked at, and how many differ before it
-abbrev entry-of : tie.In-loop Inv-loop μ-loop → tie.Start
+abbrev entry-of : tie.In-loop Inv-loop μ-loop → tie.Start Inv-loop μ-loop
 entry-of c = search
 
 abbrev cellsA : tie.In-loop Inv-loop μ-loop → List ℕ
