@@ -29,8 +29,8 @@ pub use Rattle.spec_plain.specs.Sent.{NoneSent, SentFirst}
 use Rattle.part_lines.specs.ArrayLists.{jobsOf, lineOf, noLine}
 use Rattle.base_lists.specs.All.{All}
 use Rattle.base_lists.specs.Loops.{allBelow}
-use Rattle.spec_stn.specs.Table.{bias}
-use Rattle.part_gaps.specs.Cells.{cell}
+use Rattle.spec_stn.specs.Table.{bias, Still}
+use Rattle.part_gaps.specs.Cells.{cell, tableOf}
 use Rattle.part_gaps.specs.GapTable.{GapTable}
 use Rattle.part_gaptest.specs.Test.{isGapTable}
 use Rattle.part_boardwords.specs.Board.{Board}
@@ -53,7 +53,7 @@ pub record SizedUse (points : ℕ) (u : Use) : Type 0 where
 abbrev pub StillSent : List ℕ → ℕ → List Job → Type 0
 StillSent l x [] = Unit {0}
 StillSent l x (j ∷ js) =
-    (j .sent ≡ true → (i : ℕ) → x ≤ i → i < x + j .points → cell l 0 i + cell l i 0 ≡ bias + bias) × StillSent l (x + j .points) js
+    (j .sent ≡ true → (i : ℕ) → x ≤ i → i < x + j .points → Still (tableOf l) i) × StillSent l (x + j .points) js
 
 -- the live points beside the origin are the jobs' points together
 abbrev pub pointsOf : Board → ℕ

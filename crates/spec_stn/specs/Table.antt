@@ -1,6 +1,8 @@
 -- Closed tables: the gap table of document 01, "the minimal network of Dechter, Meiri and Pearl (1991)". A table is a function of two
 -- point numbers, so that its laws are arithmetic; a cell holds its gap plus a bias, so that it is a natural number.
 --   bias, Table      100,000,000, the largest horizon; the tables
+--   gap c i j        the gap from point i to point j: how a cell is read. Where numbers are compared, definitions keep to cells, with the bias on the
+--                    other side: sums of naturals, as the code has them
 --   Closed n c       c is a minimal network of the first n points
 --   Fits n c t       the timetable t keeps to the cells of the first n points
 --   IsConsistent r c  some timetable of the closed table c keeps the rule r too;  isConsistent r c: the test;  add r c: the table of those that do
@@ -19,7 +21,7 @@ use mathlib.Core.List.{List, [], _∷_}
 use mathlib.Core.Option.{Option, some, none}
 use Prim.Native.Nat.{ℕ, zero, suc, _+_, _-_, _≤_, _<_, min}
 use lib.Dec.{leb, ltb, eqb}
-use lib.IntN.{pos, subℕ}
+use lib.IntN.{ℤ, pos, subℕ}
 use Rattle.spec_plain.specs.declared.Rule.{Rule}
 use Rattle.spec_plain.specs.Rules.{Times, Kept}
 
@@ -28,6 +30,9 @@ bias = 100000000
 
 abbrev pub Table : Type 0
 Table = ℕ → ℕ → ℕ
+
+abbrev pub gap : Table → ℕ → ℕ → ℤ
+gap c i j = subℕ (c i j) bias
 
 pub record Closed (n : ℕ) (c : Table) : Type 0 where
   -- the diagonal is 0

@@ -81,7 +81,8 @@ unfolding offerRuling
 offer-early p o =
     cond-early (ltb (length o) 24 || (ltb (stepCount o) 1 || ltb 8 (stepCount o))) (refuse 7) _ (early (λ e. omega arith) (omega arith))
     (then-early (firstRefusal (stepRuling p o) (stepCount o)) _ (first-early (stepRuling p o) (step-early p o) (stepCount o))
-    (cond-early (eqb (stepStart p o (stepCount o)) (length o)) Accepted (refuse 9) (early (λ e. omega arith) (omega arith)) (early (λ e. omega arith) (omega arith))))
+    (cond-early (eqb (stepStart p o (stepCount o)) (length o)) Accepted (refuse 9)
+    (early (λ e. omega arith) (omega arith)) (early (λ e. omega arith) (omega arith))))
 
 unfoldable NeedEarly : Need → Type 0
 NeedEarly (Facts l) = Unit {0}
@@ -116,7 +117,8 @@ chain-early p o = go (knownOf o) (workBack (chainOf p o) 0 (goalOf o)) (back-ear
   where
     go : (known : Literals) (n : Need) → NeedEarly n → Early (onNeed known n)
     go known (Facts l) x =
-        cond-early (eqb (lacking known l) 0) Accepted (refused 13 (lowest (lacking known l))) (early (λ e. omega arith) (omega arith)) (lacks (lowest (lacking known l)))
+        cond-early (eqb (lacking known l) 0) Accepted (refused 13 (lowest (lacking known l)))
+        (early (λ e. omega arith) (omega arith)) (lacks (lowest (lacking known l)))
     go known (Clash c) x = x
 
 pub check-early : (p o : List ℕ) → Early (factCheck p o)

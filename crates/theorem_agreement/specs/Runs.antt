@@ -9,14 +9,13 @@ use mathlib.Core.Path.{_≡_}
 use mathlib.Core.Logic.{_↔_}
 use mathlib.Core.List.{List, [], _∷_}
 use Prim.Native.Nat.{ℕ, _<_}
-use lib.IntN.{subℕ}
 use Rattle.base_rulings.specs.declared.Ruling.{Ruling}
 use Rattle.base_rulings.specs.Answer.{numberOf}
 use Rattle.spec_plain.specs.Rules.{Times}
 use Rattle.base_lists.specs.All.{All}
 use Rattle.spec_rulebook.specs.Book.{Book, Call, plan, send, clock, retire, fresh, Runs, Possible, Consistent, Gap, Least, Greatest}
-use Rattle.spec_stn.specs.Table.{bias, earliest, latest}
-use Rattle.part_gaps.specs.Cells.{cell, tableOf}
+use Rattle.spec_stn.specs.Table.{gap, earliest, latest}
+use Rattle.part_gaps.specs.Cells.{tableOf}
 use Rattle.part_boardwords.specs.Board.{Board}
 use Rattle.part_sound.specs.Sound.{Sound}
 use Rattle.spec_plain.specs.declared.Settings.{Settings}
@@ -53,8 +52,8 @@ pub record Represents (b : Board) (k : Book) : Type 0 where
   -- the timetables that keep to the table are those possible in the rule book, and there is one
   pub timetables : (u : Times) → Timetable b u ↔ Possible k u
   pub possible : Consistent k
-  -- "Entry (i, j) of the gap table is the largest time of j minus time of i over the possible timetables": a cell holds it plus the bias
-  pub gaps : (i j : ℕ) → i < livePoints b → j < livePoints b → Gap k i j (subℕ (cell (b .gaps) i j) bias)
+  -- "Entry (i, j) of the gap table is the largest time of j minus time of i over the possible timetables."
+  pub gaps : (i j : ℕ) → i < livePoints b → j < livePoints b → Gap k i j (gap (tableOf (b .gaps)) i j)
   -- "Earliest and latest times are read from the origin's column and row."
   pub earliests : (x : ℕ) → x < livePoints b → Least k x (earliest (tableOf (b .gaps)) x)
   pub latests : (x : ℕ) → x < livePoints b → Greatest k x (latest (tableOf (b .gaps)) x)

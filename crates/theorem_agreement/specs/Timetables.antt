@@ -2,7 +2,7 @@
 -- `GreatestTime Y` and `LargestGap Y` are rulebook's).
 --   Timetable b u       the timetable u keeps to the board b: the origin at 0, and every cell of two live points kept
 --   Some Y              there is one of Y
---   Minimal Y b         the board's table is the gap table of Y: it allows exactly Y, each cell less the bias is the largest gap, each
+--   Minimal Y b         the board's table is the gap table of Y: it allows exactly Y, each gap in it is the largest, each
 --                       earliest time the least, and the earliest times together are one of Y
 --   Decided b n Y next a   a call with the answer a is accepted exactly when Y is not empty, and else refused with the number n; accepted, it leaves
 --                       the state `next` and the gap table of Y
@@ -14,14 +14,14 @@ use mathlib.Core.Logic.{_↔_, _⊎_}
 use mathlib.Core.List.{List, [], _∷_}
 use Prim.Native.Nat.{ℕ, suc, _+_, _<_}
 use lib.ListN.{getD, take}
-use lib.IntN.{pos, subℕ}
+use lib.IntN.{pos}
 use Rattle.base_rulings.specs.declared.Ruling.the-variants.{Accepted}
 use Rattle.spec_plain.specs.Plain.{State, total}
 use Rattle.spec_plain.specs.Rules.{Times}
 use Rattle.part_lines.specs.ArrayLists.{noJob}
 use Rattle.spec_rulebook.specs.Book.{LeastTime, GreatestTime, LargestGap}
-use Rattle.spec_stn.specs.Table.{bias, Fits, earliest, soonest}
-use Rattle.part_gaps.specs.Cells.{cell, tableOf}
+use Rattle.spec_stn.specs.Table.{gap, Fits, earliest, soonest}
+use Rattle.part_gaps.specs.Cells.{tableOf}
 use Rattle.part_boardwords.specs.Board.{Board}
 use Rattle.call_board.specs.Ruled.{Ruled}
 use Rattle.call_board.specs.Boards.{stateOf}
@@ -37,8 +37,7 @@ Some Y = (u : Times) × Y u
 
 pub record Minimal (Y : Times → Type 0) (b : Board) : Type 0 where
   pub same : (u : Times) → Timetable b u ↔ Y u
-  -- a cell holds its gap plus the bias
-  pub gaps : (i j : ℕ) → i < livePoints b → j < livePoints b → LargestGap Y i j (subℕ (cell (b .gaps) i j) bias)
+  pub gaps : (i j : ℕ) → i < livePoints b → j < livePoints b → LargestGap Y i j (gap (tableOf (b .gaps)) i j)
   pub earliests : (x : ℕ) → x < livePoints b → LeastTime Y x (earliest (tableOf (b .gaps)) x)
   pub together : Y (soonest (tableOf (b .gaps)))
 
