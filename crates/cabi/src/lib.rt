@@ -1,14 +1,14 @@
 // The board's calls from C (include/snipefeather.h), on a board that is lent as its words: each is the call that the programs make, and its answer as
-// a number. It may use call_board, call_planning, call_dispatch, call_report and part_boardwords, and decides nothing.
+// a number. It may use the calls and part_boardwords, and decides nothing.
 use base_rulings::number;
 use base_rulings::value;
 use call_board::fresh;
-use call_dispatch::clock;
-use call_dispatch::retire;
-use call_dispatch::send;
+use call_clocking::clock;
 use call_planning::plan;
 use call_report::Row;
 use call_report::report;
+use call_retiring::retire;
+use call_sending::send;
 use spec_plain::Settings;
 ghost use mathlib.Core.Path.{_≡_};
 ghost use lib.ListN.{set};

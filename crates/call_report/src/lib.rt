@@ -25,10 +25,10 @@ ghost use Rattle.spec_plain.specs.Limits.{mostJobs, mostPoints};
 ghost use Rattle.base_rulings.specs.declared.Ruling.the-variants.{Refused};
 ghost use Rattle.base_rulings.specs.declared.Cause.the-variants.{Plain};
 ghost use Rattle.part_gaps.specs.Cells.{tableOf};
-ghost use Rattle.part_boardwords.specs.Layout.{cellsAt, boardSize};
+ghost use Rattle.part_boardwords.specs.Layout.{boardSize};
 ghost use Rattle.part_boardwords.specs.Words.{wordIn, cellsRead, boardIn};
 ghost use Rattle.part_sound.specs.Sound.{sound};
-ghost use Rattle.call_report.specs.Rows.{rowOf, rowsOf, laid, reportedIn, reportedInto, asked, nextCursor, cursor};
+ghost use Rattle.call_report.specs.Rows.{rowOf, rowsOf, laid, reportedIn, reportedInto, asked, nextCursor};
 
 // A point's row: its job's place, its place in the job, and its earliest and latest times.
 #[repr(C)]

@@ -19,7 +19,6 @@ use lib.Dec.{leb, ltb}
 use Rattle.spec_plain.specs.Limits.{mostPoints, resources, mostUses}
 use Rattle.spec_plain.specs.declared.Job.{Job}
 use Rattle.spec_plain.specs.declared.Use.{Use}
-use Rattle.spec_plain.specs.Plain.{noUse}
 use Rattle.part_lines.specs.declared.Line.{Line}
 use Rattle.part_lines.specs.ArrayLists.{lineOf}
 use Rattle.spec_stn.specs.Table.{Table, earliest}

@@ -23,7 +23,7 @@ use Rattle.part_sound.specs.Sound.{pointsOf, sound}
 use Rattle.log_tables.specs.declared.Compared.{Compared}
 use Rattle.log_tables.specs.declared.Compared.the-variants.{FirstUnsound, SecondUnsound, Points, Entry, Equal}
 use Rattle.log_tables.specs.Compared.{firstDifference, entryAt, comparedCells, compared}
-use Rattle.log_tables.specs.Witness.{differing, differences}
+use Rattle.log_tables.specs.Witness.{differences}
 use Rattle.log_tables.proofs.Differences.{first-least}
 use Rattle.log_tables.proofs.Answers.{first-entry, no-entry, other-points, by-cells}
 use Rattle.log_tables.proofs.Equal.{isEqual, equal-exactly}

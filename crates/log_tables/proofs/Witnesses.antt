@@ -5,20 +5,20 @@
 --   on-first, on-second    those of `witnessOn`
 --   no-row, no-point, no-board, time-is   those of `witnessTime`, of words that are lent
 use Prim.Native.Nat.{ℕ, zero, suc, _+_, _-_, _*_, _≤_, _<_}
-use mathlib.Core.Bool.{Bool, true, false, cond, _&&_}
+use mathlib.Core.Bool.{Bool, true, false, cond}
 use mathlib.Core.List.{List}
 use mathlib.Core.Path.{_≡_, refl, sym, _∙_, ap}
 use native.Mathlib.Numerals.{add-one}
 use native.Mathlib.Omega.{arith}
-use lib.Dec.{ltb, eqb}
+use lib.Dec.{eqb}
 use lib.ListN.{length, getD}
-use borrow.Author.Tests.{lt-ltb, le-ltb, eqb-true, eqb-false, eq-eqb, ne-eqb}
+use borrow.Author.Tests.{lt-ltb, le-ltb, eqb-true, eq-eqb, ne-eqb}
 use Rattle.spec_plain.specs.Limits.{side, cellCount}
 use Rattle.base_lists.proofs.Build.{build-at}
 use Rattle.part_gaps.specs.Cells.{cell}
 use Rattle.part_boardwords.specs.Board.{Board}
 use Rattle.part_boardwords.specs.Layout.{boardSize}
-use Rattle.part_boardwords.specs.Words.{Words, wordIn, zeros, cellAt, cellsRead, boardIn, boardRead, lentBoard}
+use Rattle.part_boardwords.specs.Words.{Words, wordIn, zeros, cellAt, boardIn, boardRead, lentBoard}
 use Rattle.part_boardwords.proofs.Lent.{lentTable, cells-lent}
 use Rattle.part_sound.specs.Sound.{sound}
 use Rattle.part_sound.proofs.InWords.{lent-is, lent-whole}

@@ -6,7 +6,7 @@
 --   witnessTime b i k the time of point k in the board's timetable in which each point is as late after point i as can be (`far`, crates/spec_stn);
 --                     0 where a number is no point's
 -- crates/theorem_agreement/specs/Witness says what holds of these times.
-use Prim.Native.Nat.{ℕ, zero, suc, _+_, _-_}
+use Prim.Native.Nat.{ℕ, zero, suc, _-_}
 use mathlib.Core.Bool.{cond, _&&_}
 use mathlib.Core.List.{List}
 use lib.Dec.{ltb, eqb}

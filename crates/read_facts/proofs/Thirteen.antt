@@ -21,7 +21,7 @@ use Rattle.read_facts.specs.declared.Action.{Action}
 use Rattle.read_facts.specs.declared.Need.{Need}
 use Rattle.read_facts.specs.declared.Need.the-variants.{Facts, Clash}
 use Rattle.read_facts.specs.Regression.{undoes, regressed, backOver, thenBack, workBack, lacking, atStart, onNeed, factRuling}
-use Rattle.read_facts.specs.Forward.{FullState, RunsThrough, Lacks, Thirteen}
+use Rattle.read_facts.specs.Forward.{RunsThrough, Lacks, Thirteen}
 use Rattle.read_facts.proofs.Bools.{clash}
 use Rattle.read_facts.proofs.Theorem.{Fair, Meaning, meaning, least, most, least-holds, most-holds, lacks-cases, lacks-true, lacks-false}
 

@@ -17,7 +17,6 @@ use Rattle.log_tables.proofs.Equal.{equal-exactly}
 use Rattle.theorem_demands.specs.Beside.{Sim}
 use Rattle.theorem_demands.specs.Cases.{SameTimetables}
 use Rattle.theorem_agreement.specs.Abstract.{Shaped, livePoints, abstractOf, bookOf}
-use Rattle.theorem_agreement.specs.Runs.{started, boardAfter}
 use Rattle.theorem_agreement.specs.Compared.{ComparesRight, ComparesMeant}
 use Rattle.theorem_agreement.proofs.Books.{sound-sim}
 use Rattle.theorem_agreement.proofs.Exact.{sim-same}

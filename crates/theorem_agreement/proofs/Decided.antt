@@ -8,7 +8,7 @@
 --   plan-14         14, of any offer: exactly when it is past 1 to 13 and there are 16 jobs or the points would pass 64;  read-14: past them
 -- Retire's are in TwentyOne (when it is accepted and when 21) and Room (what it leaves).
 use mathlib.Core.Path.{_≡_, refl, sym, ap, subst, _∙_}
-use mathlib.Core.Logic.{_↔_, _⊎_}
+use mathlib.Core.Logic.{_↔_}
 use mathlib.Core.Bool.{true, false, not}
 use mathlib.Core.List.{List, _++_}
 use Prim.Native.Nat.{ℕ, suc, _+_, _≤_, _<_}
@@ -21,9 +21,8 @@ use Rattle.base_rulings.specs.declared.Ruling.{Ruling}
 use Rattle.base_rulings.specs.declared.Ruling.the-variants.{Refused}
 use Rattle.base_rulings.specs.Answer.{refuse, numberOf}
 use Rattle.read_offer.specs.Offer.{factCheck}
-use Rattle.spec_plain.specs.Limits.{mostJobs, mostPoints}
 use Rattle.spec_plain.specs.declared.Rule.{Rule}
-use Rattle.spec_plain.specs.Plain.{Offer, State, Draft, total, newPoints, upperBound, bounds, drafted}
+use Rattle.spec_plain.specs.Plain.{Offer, State, Draft, newPoints, upperBound, bounds, drafted}
 use Rattle.spec_plain.specs.Plain.{unsentAt, unsentPoints, clockOk, clockState, starts, sentState}
 use Rattle.spec_plain.specs.Rules.{KeepsAll}
 use Rattle.part_lines.specs.ArrayLists.{noJob}

@@ -3,7 +3,7 @@
 --   Other q          placing stops with 15 or more;  placed-other shows it
 --   decided-14       what is decided is 14 exactly where there is no room
 use mathlib.Core.Path.{_≡_, refl, sym, ap, _∙_}
-use mathlib.Core.Logic.{_↔_, _⊎_, inl, inr}
+use mathlib.Core.Logic.{_↔_, inl, inr}
 use mathlib.Core.Bool.{Bool, true, false, true≢false, false≢true, cond, _||_}
 use mathlib.Core.List.{List, []}
 use mathlib.Core.Option.{Option, some, none}

@@ -5,7 +5,7 @@
 --   fresh-beside   the board that fresh gives is beside the fresh book
 --   reached        every run from the fresh book is beside the board after;  represented: which so represents its book
 --   agreement      all that specs/Runs says
-use mathlib.Core.Path.{_≡_, refl, sym, ap, ap₂, _∙_}
+use mathlib.Core.Path.{_≡_, refl, sym, ap₂, _∙_}
 use mathlib.Core.Bool.{false}
 use mathlib.Core.List.{List, [], _∷_}
 use Prim.Native.Nat.{ℕ, _<_}

@@ -11,17 +11,15 @@ use mathlib.Core.Bool.{false}
 use mathlib.Core.List.{List, [], _∷_}
 use Prim.Native.Nat.{ℕ, _+_, _*_, _<_}
 use native.Mathlib.Omega.{arith}
-use lib.Dec.{eqb}
 use lib.ListN.{length}
 use borrow.Author.Tests.{eq-eqb}
-use Rattle.base_rulings.specs.declared.Cause.{Cause}
 use Rattle.base_rulings.specs.declared.Ruling.{Ruling}
 use Rattle.base_rulings.specs.declared.Ruling.the-variants.{Accepted, Refused}
 use Rattle.base_rulings.specs.Order.{ifAccepted}
 use Rattle.base_lists.proofs.Build.{build-at}
 use Rattle.spec_plain.specs.Limits.{side, cellCount}
 use Rattle.spec_plain.specs.declared.Settings.{Settings}
-use Rattle.spec_rulebook.specs.Book.{Book, Call, plan, send, clock, retire, Runs}
+use Rattle.spec_rulebook.specs.Book.{Call, plan, send, clock, retire}
 use Rattle.part_gaps.specs.Cells.{cell}
 use Rattle.part_boardwords.specs.Board.{Board}
 use Rattle.part_boardwords.specs.Layout.{boardSize}
@@ -32,11 +30,10 @@ use Rattle.part_sound.proofs.InWords.{lent-is}
 use Rattle.call_board.specs.Ruled.{Ruled}
 use Rattle.call_board.specs.Boards.{badSettings, freshRuled}
 use Rattle.call_board.specs.InWords.{wordsAfter, freshRuling, freshWords}
-use Rattle.theorem_demands.specs.Cases.{RunsTo, SameTimetables}
 use Rattle.theorem_agreement.specs.Abstract.{livePoints}
-use Rattle.theorem_agreement.specs.Runs.{started, opened, callRuled, boardAfter, rulings}
+use Rattle.theorem_agreement.specs.Runs.{started, callRuled, boardAfter, rulings}
 use Rattle.theorem_agreement.specs.Demand3.{SameCells}
-use Rattle.theorem_agreement.specs.OnWords.{callWords, wordsThrough, rulingsThrough, OnWords, WordsRight, cellWord, SameCellWords, Demand3OnWords}
+use Rattle.theorem_agreement.specs.OnWords.{callWords, wordsThrough, rulingsThrough, WordsRight, cellWord, SameCellWords, Demand3OnWords}
 use Rattle.theorem_agreement.proofs.Refused.{refused-same}
 use Rattle.theorem_agreement.proofs.GivenBack.{plan-back, send-back, clock-back, retire-back, fresh-back}
 use Rattle.theorem_agreement.proofs.Lists.{agreement}

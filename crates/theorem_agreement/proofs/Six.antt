@@ -2,16 +2,14 @@
 --   Not6 r         the ruling r is not 6
 --   call-6         a call on a sound board is never refused with 6
 use mathlib.Core.Path.{_≡_, sym, subst}
-use mathlib.Core.Bool.{Bool, true, false, cond, not, _||_}
-use mathlib.Core.List.{List, [], _∷_}
+use mathlib.Core.Bool.{Bool, true, false, cond, not}
+use mathlib.Core.List.{List, []}
 use mathlib.Core.Option.{Option, some, none}
-use Prim.Native.Nat.{ℕ, zero, suc, _+_, _-_}
+use Prim.Native.Nat.{ℕ, _-_}
 use native.Mathlib.Omega.{arith}
-use lib.Dec.{leb, ltb, eqb}
-use lib.ListN.{length}
 use Rattle.base_rulings.specs.declared.Ruling.{Ruling}
 use Rattle.base_rulings.specs.declared.Ruling.the-variants.{Accepted, Refused}
-use Rattle.base_rulings.specs.Answer.{cause, plain, refused, refuse, numberOf}
+use Rattle.base_rulings.specs.Answer.{plain, refuse, numberOf}
 use Rattle.read_offer.specs.Offer.{factCheck}
 use Rattle.spec_plain.specs.Plain.{Offer, State, Placed, Draft, Leaving, liveCount, full, newPoints, placed, joining, drafted, unsentAt, clockOk, leaving}
 use Rattle.spec_stn.specs.Table.{entailsAll}

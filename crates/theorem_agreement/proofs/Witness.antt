@@ -11,7 +11,6 @@ use native.Mathlib.Decide.{decLt}
 use native.Mathlib.Omega.{arith}
 use lib.IntN.{pos}
 use Rattle.spec_plain.specs.Limits.{side}
-use Rattle.spec_plain.specs.Plain.{liveCount}
 use Rattle.spec_plain.proofs.Rules.{NotLater}
 use Rattle.spec_stn.specs.Table.{bias, Closed, Fits}
 use Rattle.spec_stn.proofs.Fits.{fits-to, fits-of}
@@ -24,7 +23,6 @@ use Rattle.log_tables.specs.Witness.{witnessOn, witnessTime}
 use Rattle.log_tables.proofs.Entries.{Names, entry-names, none-exactly}
 use Rattle.log_tables.proofs.Witnesses.{cells-time, on-first, on-second}
 use Rattle.theorem_agreement.specs.Abstract.{Shaped, livePoints}
-use Rattle.theorem_agreement.specs.Timetables.{Timetable}
 use Rattle.theorem_agreement.specs.Witness.{shownTimes, Separates, Shows, WitnessRight, CountRight}
 use Rattle.theorem_agreement.proofs.Compared.{live-to, live-of}
 use Rattle.theorem_agreement.proofs.Parts.{parts-of}

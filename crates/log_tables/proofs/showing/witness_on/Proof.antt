@@ -1,5 +1,4 @@
 -- The board with the larger cell.
-use native.Mathlib.Omega.{arith}
 use Rattle.log_tables.proofs.Witnesses.{on-first, on-second}
 use Rattle.log_tables.proofs.showing.witness_on.Statement.{statement}
 use Rattle.log_tables.proofs.showing.witness_on.Tie as tie

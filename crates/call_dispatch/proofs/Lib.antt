@@ -1,4 +1,0 @@
-pub mod Clocked
-pub mod Sent
-pub mod Ended
-pub mod Retired
