@@ -9,6 +9,7 @@ use mathlib.Core.List.{List, [], _∷_}
 use lib.Count.{trailingZeros}
 use lib.Dec.{leb}
 use lib.ListN.{length}
+use Rattle.read_plant.specs.Plant.{allocationsOf}
 use Rattle.spec_stn.specs.Table.{bias}
 use Rattle.theorem_demands.specs.Model as Model
 use Rattle.theorem_demands.specs.Tidy as Tidy
@@ -17,6 +18,7 @@ use Rattle.base_lists.specs.Loops.{allBelow}
 use Rattle.theorem_demands.specs.Shown.{isAccepted, kindOf, sameRuling, sameRulings, readable, sameCells, sameBoards, shown, allShown}
 use Rattle.theorem_demands.specs.ProvingTable.{plant, jobJ, table}
 use Rattle.theorem_demands.specs.FurtherTable.{furtherTable, AllDraft, draftTable}
+use Rattle.theorem_demands.specs.ReadingTable.{AllPlants, plantTable, AllParts, partTable, AllOffers, offerTable, AllSpelled, spelledTable}
 use Rattle.theorem_demands.proofs.Computing.{computing}
 
 -- the bytes are as many as document 01 says
@@ -61,8 +63,43 @@ further-computed =
     both (refl, refl, refl) (both (refl, refl, refl) (both (refl, refl, refl) (both (refl, refl, refl) (
     both (refl, refl, refl) (both (refl, refl, refl) (both (refl, refl, refl) (both (refl, refl, refl) (
     both (refl, refl, refl) (both (refl, refl, refl) (both (refl, refl, refl) (both (refl, refl, refl) (
-    both (refl, refl, refl) (both (refl, refl, refl) (tt))))))))))))))))))
+    both (refl, refl, refl) (both (refl, refl, refl) (
+    both (refl, refl, refl) (both (refl, refl, refl) (both (refl, refl, refl) (
+    both (refl, refl, refl) (both (refl, refl, refl) (both (refl, refl, refl) (both (refl, refl, refl) (both (refl, refl, refl) (
+    both (refl, refl, refl) (both (refl, refl, refl) (tt))))))))))))))))))))))))))))
 
 pub drafts-computed : AllDraft draftTable
 unfolding computing
 drafts-computed = (refl, (refl, (refl, (refl, (refl, (refl, (refl, (refl, (refl, tt)))))))))
+
+-- plant files, the parts that they hand out, offers, and an offer as it is read
+pub plants-computed : AllPlants plantTable
+unfolding computing
+plants-computed =
+    both refl (both refl (both refl (both refl (both refl (both refl (both refl (both refl (
+    both refl (both refl (both refl (both refl (both refl (both refl (both refl (both refl (
+    both refl (both refl (both refl (both refl (both refl (both refl (both refl (both refl (
+    both refl (both refl (both refl (both refl (both refl (both refl (both refl (both refl (
+    both refl (both refl (both refl (both refl (both refl (both refl (both refl (both refl (
+    both refl (both refl (both refl (both refl (tt))))))))))))))))))))))))))))))))))))))))))))
+
+pub parts-computed : AllParts partTable
+unfolding computing allocationsOf
+parts-computed = both refl (both refl (both refl (both refl (tt))))
+
+pub offers-computed : AllOffers offerTable
+unfolding computing trailingZeros
+offers-computed =
+    both (refl, refl) (both (refl, refl) (both (refl, refl) (both (refl, refl) (
+    both (refl, refl) (both (refl, refl) (both (refl, refl) (both (refl, refl) (
+    both (refl, refl) (both (refl, refl) (both (refl, refl) (both (refl, refl) (
+    both (refl, refl) (both (refl, refl) (both (refl, refl) (both (refl, refl) (
+    both (refl, refl) (both (refl, refl) (both (refl, refl) (both (refl, refl) (
+    both (refl, refl) (both (refl, refl) (both (refl, refl) (both (refl, refl) (
+    both (refl, refl) (both (refl, refl) (both (refl, refl) (both (refl, refl) (
+    both (refl, refl) (both (refl, refl) (both (refl, refl) (both (refl, refl) (
+    both (refl, refl) (both (refl, refl) (both (refl, refl) (both (refl, refl) (tt))))))))))))))))))))))))))))))))))))
+
+pub spelled-computed : AllSpelled spelledTable
+unfolding computing trailingZeros
+spelled-computed = both refl tt

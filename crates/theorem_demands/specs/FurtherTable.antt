@@ -1,8 +1,9 @@
 -- Cases of our own in the form of the proving table, for what document 01's cases do not show.
 --   action t n us       the record of an action without facts, of t ms and with the n allocations us
---   plantOne, plantTwo  the plant file of one such action, of two
+--   plantOf rs          the plant file of the records rs;  joined: one behind the other;  startsFrom: where they start
 --   offer b n ws        an offer without facts in batch b, of n steps that ws spells: an action and its places for each
 --   twice, long         plants of one action each
+--   crossing            a plant of one action that uses two resources;  crosses p q: a plan of it, with its places in their lines
 --   pair                a plant of two actions: 0 moves, 10 ms without a use; 1 turns, 5 ms that use resource 1
 --   moves, turns p      plans of each alone, with the place of the turn
 --   times n x           x, n times over
@@ -28,28 +29,40 @@ use Rattle.theorem_demands.specs.ProvingTable.{u32s, plant, jobJ, offerM
 abbrev pub action : ℕ → ℕ → List ℕ → List ℕ
 action t n us = u32s (0 ∷ 0 ∷ 0 ∷ 0 ∷ t ∷ t ∷ []) ++ (n ∷ 0 ∷ 0 ∷ 0 ∷ []) ++ u32s us
 
-abbrev mark : List ℕ
+abbrev pub mark : List ℕ
 mark = 0x50 ∷ 0x4C ∷ 0x4E ∷ 0x54 ∷ []
 
-abbrev pub plantOne : List ℕ → List ℕ
-plantOne a = a ++ u32s (0 ∷ []) ++ u32s (length a ∷ 1 ∷ []) ++ mark
+abbrev pub joined : List (List ℕ) → List ℕ
+joined [] = []
+joined (r ∷ rs) = r ++ joined rs
 
-abbrev pub plantTwo : List ℕ → List ℕ → List ℕ
-plantTwo a b = a ++ b ++ u32s (0 ∷ length a ∷ []) ++ u32s ((length a + length b) ∷ 2 ∷ []) ++ mark
+abbrev startsFrom : ℕ → List (List ℕ) → List ℕ
+startsFrom at [] = []
+startsFrom at (r ∷ rs) = at ∷ startsFrom (at + length r) rs
+
+abbrev pub plantOf : List (List ℕ) → List ℕ
+plantOf rs = joined rs ++ u32s (startsFrom 0 rs) ++ u32s (length (joined rs) ∷ length rs ∷ []) ++ mark
 
 abbrev pub offer : ℕ → ℕ → List ℕ → List ℕ
 offer b n ws = u32s (b ∷ 0 ∷ 0 ∷ 0 ∷ 0 ∷ n ∷ []) ++ u32s ws
 
 -- 40 ms, with two uses of resource 0: 0 to 10 and 20 to 30
 abbrev pub twice : List ℕ
-twice = plantOne (action 40 2 (0 ∷ 0 ∷ 10 ∷ 0 ∷ 20 ∷ 10 ∷ []))
+twice = plantOf (action 40 2 (0 ∷ 0 ∷ 10 ∷ 0 ∷ 20 ∷ 10 ∷ []) ∷ [])
 
 -- 1 ms, with a use of resource 0 that outlasts it: 0 to 30
 abbrev pub long : List ℕ
-long = plantOne (action 1 1 (0 ∷ 0 ∷ 30 ∷ []))
+long = plantOf (action 1 1 (0 ∷ 0 ∷ 30 ∷ []) ∷ [])
+
+-- 1 ms, with a use of resource 0 from 3 to 7, and one of resource 15 from 2 to 9
+abbrev pub crossing : List ℕ
+crossing = plantOf (action 1 2 (0 ∷ 3 ∷ 4 ∷ 15 ∷ 2 ∷ 7 ∷ []) ∷ [])
+
+abbrev pub crosses : ℕ → ℕ → Call
+crosses p q = plan crossing (offer 0 1 (0 ∷ p ∷ q ∷ []))
 
 abbrev pub pair : List ℕ
-pair = plantTwo (action 10 0 []) (action 5 1 (1 ∷ 0 ∷ 5 ∷ []))
+pair = plantOf (action 10 0 [] ∷ action 5 1 (1 ∷ 0 ∷ 5 ∷ []) ∷ [])
 
 abbrev pub turns : ℕ → Call
 turns p = plan pair (offer 0 1 (1 ∷ p ∷ []))
@@ -112,8 +125,43 @@ dispatching =
     ∷ usual (retire ∷ J ∷ retire ∷ []) (refuse 21 ∷ Accepted ∷ refuse 21 ∷ []) []
     ∷ []
 
+abbrev pub neighbours : List Case
+neighbours =
+    -- a use goes between two others: the one just before ends by its start, and it by the start of the one just after
+    usual (crosses 0 0 ∷ crosses 1 1 ∷ crosses 1 1 ∷ []) (times 3 Accepted)
+    (earliest 1 5 ∷ earliest 5 12 ∷ earliest 3 19 ∷ latest 1 985 ∷ latest 5 992 ∷ latest 3 999 ∷ [])
+    -- the rules of all of the offer's allocations count: behind in one line and before in the other does not go
+    ∷ usual (crosses 0 0 ∷ crosses 1 0 ∷ crosses 0 1 ∷ []) (Accepted ∷ refuse 17 ∷ refuse 17 ∷ [])
+    (earliest 1 5 ∷ latest 1 999 ∷ [])
+    -- a step lasts its longest at most: a job of its batch ends at 55, so J does, and starts at 30
+    ∷ usual (plan pair (offer 7 5 (times 5 0)) ∷ plan plant (jobJ 7 0) ∷ []) (times 2 Accepted) (earliest 7 30 ∷ earliest 8 50 ∷ earliest 9 55 ∷ [])
+    ∷ []
+
+abbrev pub sendings : List Case
+sendings =
+    -- up to a place: the job there and those before it, and none behind
+    usual (J ∷ moves ∷ send 0 ∷ []) (times 3 Accepted) (latest 1 5 ∷ latest 2 15 ∷ latest 3 20 ∷ earliest 4 5 ∷ latest 4 990 ∷ [])
+    ∷ usual (J ∷ moves ∷ send 1 ∷ send 0 ∷ send 1 ∷ []) (Accepted ∷ Accepted ∷ Accepted ∷ refuse 18 ∷ refuse 18 ∷ [])
+    (latest 1 5 ∷ latest 2 15 ∷ latest 3 20 ∷ latest 4 5 ∷ latest 5 15 ∷ [])
+    -- the clock is for unsent jobs, each by its own first point
+    ∷ usual (J ∷ moves ∷ clock 50 ∷ []) (times 3 Accepted) (earliest 1 55 ∷ earliest 3 70 ∷ earliest 4 55 ∷ earliest 5 65 ∷ [])
+    ∷ usual (J ∷ moves ∷ send 0 ∷ clock 50 ∷ send 1 ∷ []) (times 5 Accepted) (latest 1 5 ∷ earliest 4 55 ∷ latest 4 55 ∷ [])
+    -- 19: the clock may stay, and may come to H
+    ∷ usual (clock 5 ∷ clock 5 ∷ clock 1000 ∷ clock 1000 ∷ []) (times 4 Accepted) []
+    ∷ []
+
+abbrev pub retirings : List Case
+retirings =
+    -- its uses in all lines: the first job's last point is at 6, its uses end at 12 and at 14
+    usual (crosses 0 0 ∷ crosses 1 1 ∷ send 0 ∷ clock 13 ∷ retire ∷ clock 14 ∷ retire ∷ [])
+    (Accepted ∷ Accepted ∷ Accepted ∷ Accepted ∷ refuse 21 ∷ Accepted ∷ Accepted ∷ []) (earliest 1 19 ∷ [])
+    -- those of the others stay, in their order, and go by their points' new numbers; a place counts what stays
+    ∷ usual (crosses 0 0 ∷ crosses 1 1 ∷ crosses 2 2 ∷ send 0 ∷ clock 14 ∷ retire ∷ crosses 3 2 ∷ crosses 2 3 ∷ crosses 1 1 ∷ [])
+    (times 6 Accepted ++ (refused 15 0 ∷ refused 15 1 ∷ Accepted ∷ [])) (earliest 1 19 ∷ earliest 5 26 ∷ earliest 3 33 ∷ [])
+    ∷ []
+
 abbrev pub furtherTable : List Case
-furtherTable = places ++ batches ++ capacities ++ dispatching
+furtherTable = places ++ batches ++ capacities ++ dispatching ++ neighbours ++ sendings ++ retirings
 
 -- ---- limits
 

@@ -5,4 +5,5 @@ pub mod Sent
 pub mod Cases
 pub mod ProvingTable
 pub mod FurtherTable
+pub mod ReadingTable
 pub mod Shown
