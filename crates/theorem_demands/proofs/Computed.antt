@@ -63,10 +63,10 @@ further-computed =
     both (refl, refl, refl) (both (refl, refl, refl) (both (refl, refl, refl) (both (refl, refl, refl) (
     both (refl, refl, refl) (both (refl, refl, refl) (both (refl, refl, refl) (both (refl, refl, refl) (
     both (refl, refl, refl) (both (refl, refl, refl) (both (refl, refl, refl) (both (refl, refl, refl) (
-    both (refl, refl, refl) (both (refl, refl, refl) (
-    both (refl, refl, refl) (both (refl, refl, refl) (both (refl, refl, refl) (
-    both (refl, refl, refl) (both (refl, refl, refl) (both (refl, refl, refl) (both (refl, refl, refl) (both (refl, refl, refl) (
-    both (refl, refl, refl) (both (refl, refl, refl) (tt))))))))))))))))))))))))))))
+    both (refl, refl, refl) (both (refl, refl, refl) (both (refl, refl, refl) (both (refl, refl, refl) (
+    both (refl, refl, refl) (both (refl, refl, refl) (both (refl, refl, refl) (both (refl, refl, refl) (
+    both (refl, refl, refl) (both (refl, refl, refl) (both (refl, refl, refl) (both (refl, refl, refl) (
+    both (refl, refl, refl) (both (refl, refl, refl) tt)))))))))))))))))))))))))))))
 
 pub drafts-computed : AllDraft draftTable
 unfolding computing
@@ -81,11 +81,11 @@ plants-computed =
     both refl (both refl (both refl (both refl (both refl (both refl (both refl (both refl (
     both refl (both refl (both refl (both refl (both refl (both refl (both refl (both refl (
     both refl (both refl (both refl (both refl (both refl (both refl (both refl (both refl (
-    both refl (both refl (both refl (both refl (tt))))))))))))))))))))))))))))))))))))))))))))
+    both refl (both refl (both refl (both refl tt)))))))))))))))))))))))))))))))))))))))))))
 
 pub parts-computed : AllParts partTable
 unfolding computing allocationsOf
-parts-computed = both refl (both refl (both refl (both refl (tt))))
+parts-computed = both refl (both refl (both refl (both refl tt)))
 
 pub offers-computed : AllOffers offerTable
 unfolding computing trailingZeros
@@ -98,7 +98,8 @@ offers-computed =
     both (refl, refl) (both (refl, refl) (both (refl, refl) (both (refl, refl) (
     both (refl, refl) (both (refl, refl) (both (refl, refl) (both (refl, refl) (
     both (refl, refl) (both (refl, refl) (both (refl, refl) (both (refl, refl) (
-    both (refl, refl) (both (refl, refl) (both (refl, refl) (both (refl, refl) (tt))))))))))))))))))))))))))))))))))))
+    both (refl, refl) (both (refl, refl) (both (refl, refl) (both (refl, refl) (
+    both (refl, refl) tt))))))))))))))))))))))))))))))))))))
 
 pub spelled-computed : AllSpelled spelledTable
 unfolding computing trailingZeros

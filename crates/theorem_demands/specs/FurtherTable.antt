@@ -3,6 +3,7 @@
 --   plantOf rs          the plant file of the records rs;  joined: one behind the other;  startsFrom: where they start
 --   offer b n ws        an offer without facts in batch b, of n steps that ws spells: an action and its places for each
 --   twice, long         plants of one action each
+--   trailing, elastic   plants of two actions;  trails p q: a plan of both of the first, with the places of its uses;  stretches n ws: a plan of the second
 --   crossing            a plant of one action that uses two resources;  crosses p q: a plan of it, with its places in their lines
 --   pair                a plant of two actions: 0 moves, 10 ms without a use; 1 turns, 5 ms that use resource 1
 --   moves, turns p      plans of each alone, with the place of the turn
@@ -61,6 +62,24 @@ crossing = plantOf (action 1 2 (0 ∷ 3 ∷ 4 ∷ 15 ∷ 2 ∷ 7 ∷ []) ∷ [])
 abbrev pub crosses : ℕ → ℕ → Call
 crosses p q = plan crossing (offer 0 1 (0 ∷ p ∷ q ∷ []))
 
+-- 10 ms that use nothing, and then 1 ms with two uses of resource 3 that outlast it: 0 to 10 and 20 to 30
+abbrev pub trailing : List ℕ
+trailing = plantOf (action 10 0 [] ∷ action 1 2 (3 ∷ 0 ∷ 10 ∷ 3 ∷ 20 ∷ 10 ∷ []) ∷ [])
+
+abbrev pub trails : ℕ → ℕ → Call
+trails p q = plan trailing (offer 0 2 (0 ∷ 1 ∷ p ∷ q ∷ []))
+
+-- 10 to 20 ms: 0 uses nothing, 1 uses resource 0 from 0 to 30
+abbrev pub elastic : List ℕ
+elastic =
+    plantOf
+    ((u32s (0 ∷ 0 ∷ 0 ∷ 0 ∷ 10 ∷ 20 ∷ []) ++ (0 ∷ 0 ∷ 0 ∷ 0 ∷ []))
+    ∷ (u32s (0 ∷ 0 ∷ 0 ∷ 0 ∷ 10 ∷ 20 ∷ []) ++ (1 ∷ 0 ∷ 0 ∷ 0 ∷ []) ++ u32s (0 ∷ 0 ∷ 30 ∷ []))
+    ∷ [])
+
+abbrev pub stretches : ℕ → List ℕ → Call
+stretches n ws = plan elastic (offer 0 n ws)
+
 abbrev pub pair : List ℕ
 pair = plantOf (action 10 0 [] ∷ action 5 1 (1 ∷ 0 ∷ 5 ∷ []) ∷ [])
 
@@ -95,7 +114,7 @@ places =
 abbrev pub batches : List Case
 batches =
     -- rule (e) goes by the newest job of the batch: A2 ends at 6, J at 20, and the next A2 no earlier than J
-    usual (plan plant (offerM 7) ∷ plan plant (jobJ 7 0) ∷ plan plant (offerM 7) ∷ []) (Accepted ∷ Accepted ∷ Accepted ∷ [])
+    usual (plan plant (offerM 8) ∷ plan plant (jobJ 8 0) ∷ plan plant (offerM 8) ∷ []) (Accepted ∷ Accepted ∷ Accepted ∷ [])
     (earliest 2 6 ∷ earliest 5 20 ∷ earliest 7 20 ∷ [])
     -- by a sent one too
     ∷ usual (plan plant (jobJ 7 0) ∷ send 0 ∷ plan plant (offerM 7) ∷ []) (Accepted ∷ Accepted ∷ Accepted ∷ []) (earliest 5 20 ∷ [])
@@ -127,9 +146,9 @@ dispatching =
 
 abbrev pub neighbours : List Case
 neighbours =
-    -- a use goes between two others: the one just before ends by its start, and it by the start of the one just after
-    usual (crosses 0 0 ∷ crosses 1 1 ∷ crosses 1 1 ∷ []) (times 3 Accepted)
-    (earliest 1 5 ∷ earliest 5 12 ∷ earliest 3 19 ∷ latest 1 985 ∷ latest 5 992 ∷ latest 3 999 ∷ [])
+    -- a use goes between two others: the one just before ends by its start, and it by the start of the one just after; all three stay in the line
+    usual (crosses 0 0 ∷ crosses 1 1 ∷ crosses 1 1 ∷ crosses 3 3 ∷ []) (times 4 Accepted)
+    (earliest 1 5 ∷ earliest 5 12 ∷ earliest 3 19 ∷ earliest 7 26 ∷ latest 1 978 ∷ latest 5 985 ∷ latest 3 992 ∷ latest 7 999 ∷ [])
     -- the rules of all of the offer's allocations count: behind in one line and before in the other does not go
     ∷ usual (crosses 0 0 ∷ crosses 1 0 ∷ crosses 0 1 ∷ []) (Accepted ∷ refuse 17 ∷ refuse 17 ∷ [])
     (earliest 1 5 ∷ latest 1 999 ∷ [])
@@ -141,8 +160,11 @@ abbrev pub sendings : List Case
 sendings =
     -- up to a place: the job there and those before it, and none behind
     usual (J ∷ moves ∷ send 0 ∷ []) (times 3 Accepted) (latest 1 5 ∷ latest 2 15 ∷ latest 3 20 ∷ earliest 4 5 ∷ latest 4 990 ∷ [])
-    ∷ usual (J ∷ moves ∷ send 1 ∷ send 0 ∷ send 1 ∷ []) (Accepted ∷ Accepted ∷ Accepted ∷ refuse 18 ∷ refuse 18 ∷ [])
-    (latest 1 5 ∷ latest 2 15 ∷ latest 3 20 ∷ latest 4 5 ∷ latest 5 15 ∷ [])
+    ∷ usual (moves ∷ moves ∷ send 1 ∷ send 0 ∷ send 1 ∷ []) (Accepted ∷ Accepted ∷ Accepted ∷ refuse 18 ∷ refuse 18 ∷ [])
+    (latest 1 5 ∷ latest 2 15 ∷ latest 3 5 ∷ latest 4 15 ∷ [])
+    -- each of a job's points: the second job stands before the first in the line and ends its use at 35, and steps may last longer than their shortest
+    ∷ usual (stretches 2 (0 ∷ 1 ∷ 0 ∷ []) ∷ stretches 1 (1 ∷ 0 ∷ []) ∷ stretches 1 (0 ∷ []) ∷ send 0 ∷ send 1 ∷ send 2 ∷ []) (times 6 Accepted)
+    (latest 1 15 ∷ latest 2 35 ∷ latest 3 45 ∷ latest 4 5 ∷ latest 5 15 ∷ latest 6 5 ∷ latest 7 15 ∷ [])
     -- the clock is for unsent jobs, each by its own first point
     ∷ usual (J ∷ moves ∷ clock 50 ∷ []) (times 3 Accepted) (earliest 1 55 ∷ earliest 3 70 ∷ earliest 4 55 ∷ earliest 5 65 ∷ [])
     ∷ usual (J ∷ moves ∷ send 0 ∷ clock 50 ∷ send 1 ∷ []) (times 5 Accepted) (latest 1 5 ∷ earliest 4 55 ∷ latest 4 55 ∷ [])
@@ -155,9 +177,12 @@ retirings =
     -- its uses in all lines: the first job's last point is at 6, its uses end at 12 and at 14
     usual (crosses 0 0 ∷ crosses 1 1 ∷ send 0 ∷ clock 13 ∷ retire ∷ clock 14 ∷ retire ∷ [])
     (Accepted ∷ Accepted ∷ Accepted ∷ Accepted ∷ refuse 21 ∷ Accepted ∷ Accepted ∷ []) (earliest 1 19 ∷ [])
+    -- and of all its steps, all in a line: the second step starts at 15, and its uses end at 25 and at 45; then the line is empty
+    ∷ usual (trails 0 1 ∷ send 0 ∷ clock 44 ∷ retire ∷ clock 45 ∷ retire ∷ trails 1 1 ∷ [])
+    (Accepted ∷ Accepted ∷ Accepted ∷ refuse 21 ∷ Accepted ∷ Accepted ∷ refused 15 0 ∷ []) []
     -- those of the others stay, in their order, and go by their points' new numbers; a place counts what stays
-    ∷ usual (crosses 0 0 ∷ crosses 1 1 ∷ crosses 2 2 ∷ send 0 ∷ clock 14 ∷ retire ∷ crosses 3 2 ∷ crosses 2 3 ∷ crosses 1 1 ∷ [])
-    (times 6 Accepted ++ (refused 15 0 ∷ refused 15 1 ∷ Accepted ∷ [])) (earliest 1 19 ∷ earliest 5 26 ∷ earliest 3 33 ∷ [])
+    ∷ usual (J ∷ crosses 1 0 ∷ crosses 2 1 ∷ send 0 ∷ clock 20 ∷ retire ∷ crosses 3 2 ∷ crosses 2 3 ∷ crosses 1 1 ∷ [])
+    (times 6 Accepted ++ (refused 15 0 ∷ refused 15 1 ∷ Accepted ∷ [])) (earliest 1 25 ∷ earliest 5 32 ∷ earliest 3 39 ∷ [])
     ∷ []
 
 abbrev pub furtherTable : List Case

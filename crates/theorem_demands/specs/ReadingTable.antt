@@ -21,7 +21,7 @@ use Rattle.spec_plain.specs.Plain.{Offer}
 use Rattle.spec_rulebook.specs.Reading.{Reading, bad, good, readingOf}
 use Rattle.spec_rulebook.specs.Book.{fresh}
 use Rattle.theorem_demands.specs.ProvingTable.{u32, u32s, plant, jobJ, settingsFrom}
-use Rattle.theorem_demands.specs.FurtherTable.{times, mark, joined, action, plantOf, pair, offer}
+use Rattle.theorem_demands.specs.FurtherTable.{times, mark, joined, action, plantOf, offer}
 
 abbrev pub withByte : ℕ → ℕ → List ℕ → List ℕ
 withByte at b s = set s at b
@@ -52,10 +52,10 @@ trailers =
     ruled plant Accepted
     -- 1: under 12 bytes, though they end with the mark; each byte of the mark counts
     ∷ ruled (drop 109 plant) (refuse 1)
-    ∷ ruled (withByte 116 0x51 plant) (refuse 1)
-    ∷ ruled (withByte 117 0x4D plant) (refuse 1)
-    ∷ ruled (withByte 118 0x4F plant) (refuse 1)
-    ∷ ruled (withByte 119 0x55 plant) (refuse 1)
+    ∷ ruled (withByte 116 0x4F plant) (refuse 1)
+    ∷ ruled (withByte 117 0x4B plant) (refuse 1)
+    ∷ ruled (withByte 118 0x4D plant) (refuse 1)
+    ∷ ruled (withByte 119 0x53 plant) (refuse 1)
     -- 2: no action, though the length is right; 128 actions are allowed, here with nothing but an index, and 129 are not
     ∷ ruled (u32s (0 ∷ 0 ∷ []) ++ mark) (refuse 2)
     ∷ ruled (times 512 0 ++ u32s (0 ∷ 128 ∷ []) ++ mark) (refused 3 0)
@@ -83,7 +83,7 @@ records =
     ∷ ruled (plantOf (uses 4 ∷ [])) Accepted
     ∷ ruled (plantOf (uses 5 ∷ [])) (refused 3 0)
     -- three spare bytes, and each is 0
-    ∷ ruled (withByte 25 1 plant) (refused 3 0)
+    ∷ ruled (withByte 65 1 plant) (refused 3 1)
     ∷ ruled (withByte 66 1 plant) (refused 3 1)
     ∷ ruled (withByte 95 1 plant) (refused 3 2)
     -- the last one ends a byte short of the index
@@ -136,17 +136,17 @@ abbrev pub AllParts : List PartCase → Type 0
 AllParts [] = Unit {0}
 AllParts (c ∷ cs) = (allocationsOf (c .bytes) (c .number) ≡ c .part) × AllParts cs
 
--- two actions: the first with one allocation, the second with two
+-- two actions: the first with one allocation, the second with three
 abbrev mixed : List ℕ
-mixed = plantOf (action 10 1 (1 ∷ 2 ∷ 3 ∷ []) ∷ action 30 2 (4 ∷ 5 ∷ 6 ∷ 7 ∷ 8 ∷ 9 ∷ []) ∷ [])
+mixed = plantOf (action 10 1 (1 ∷ 2 ∷ 3 ∷ []) ∷ action 30 3 (4 ∷ 5 ∷ 6 ∷ 7 ∷ 8 ∷ 9 ∷ 10 ∷ 11 ∷ 12 ∷ []) ∷ [])
 
 abbrev pub partTable : List PartCase
 partTable =
     -- each action's own, all of them and nothing else
     record { bytes = mixed; number = 0; part = u32s (1 ∷ 2 ∷ 3 ∷ []) }
-    ∷ record { bytes = mixed; number = 1; part = u32s (4 ∷ 5 ∷ 6 ∷ 7 ∷ 8 ∷ 9 ∷ []) }
-    -- an action that the file lacks, and a bad file
-    ∷ record { bytes = mixed; number = 2; part = [] }
+    ∷ record { bytes = mixed; number = 1; part = u32s (4 ∷ 5 ∷ 6 ∷ 7 ∷ 8 ∷ 9 ∷ 10 ∷ 11 ∷ 12 ∷ []) }
+    -- an action that the file lacks, though there are bytes where it would stand; and a bad file
+    ∷ record { bytes = plantOf (times 7 (action 1 0 [])); number = 7; part = [] }
     ∷ record { bytes = withWord 16 0 mixed; number = 1; part = [] }
     ∷ []
 
@@ -182,8 +182,8 @@ layouts =
     -- 7: under 24 bytes; 1 to 8 steps
     ∷ checked plant (take 23 (jobJ 0 0)) (refuse 7)
     ∷ checked plant (offer 0 0 []) (refuse 7)
-    ∷ checked pair (offer 0 8 (times 8 0)) Accepted
-    ∷ checked pair (offer 0 9 (times 9 0)) (refuse 7)
+    ∷ checked (plantOf (action 10 0 [] ∷ [])) (offer 0 8 (times 8 0)) Accepted
+    ∷ checked (plantOf (action 10 0 [] ∷ [])) (offer 0 9 (times 9 0)) (refuse 7)
     -- 8: no step, an action number cut off, a place cut off, in step 1 too
     ∷ checked plant (take 24 (jobJ 0 0)) (refused 8 0)
     ∷ checked plant (take 27 (jobJ 0 0)) (refused 8 0)
@@ -213,6 +213,7 @@ chains =
     -- facts 0 true and 1 false; in two steps they are the other way
     checked changes (wanting 1 2 4 8 (0 ∷ [])) Accepted
     ∷ checked changes (wanting 1 2 2 1 (0 ∷ 1 ∷ [])) Accepted
+    ∷ checked changes (wanting 1 2 2 1 (2 ∷ 0 ∷ 1 ∷ [])) Accepted
     -- what no step makes must be known, false or true
     ∷ checked changes (wanting 16 32 16 32 (2 ∷ [])) Accepted
     -- 10: known both ways, wanted both ways
@@ -221,7 +222,7 @@ chains =
     -- 11: a step makes false what is needed true, or true what is needed false
     ∷ checked changes (wanting 1 2 8 0 (0 ∷ [])) (refused 11 0)
     ∷ checked changes (wanting 1 2 0 4 (0 ∷ [])) (refused 11 0)
-    ∷ checked changes (wanting 1 2 1 0 (0 ∷ 1 ∷ [])) (refused 11 1)
+    ∷ checked changes (wanting 1 2 1 0 (2 ∷ 0 ∷ 1 ∷ [])) (refused 11 2)
     -- 12: a step needs true what is needed false after it, or false what is needed true
     ∷ checked changes (wanting 1 2 0 1 (0 ∷ [])) (refused 12 0)
     ∷ checked changes (wanting 1 2 2 0 (0 ∷ [])) (refused 12 0)
@@ -268,7 +269,7 @@ abbrev pub spelledTable : List SpelledCase
 spelledTable =
     record {
       plantBytes = withWord 20 11 mixed;
-      offerBytes = offer 77 3 (1 ∷ 20 ∷ 21 ∷ 0 ∷ 22 ∷ 1 ∷ 23 ∷ 24 ∷ []);
+      offerBytes = offer 77 3 (1 ∷ 20 ∷ 21 ∷ 22 ∷ 0 ∷ 23 ∷ 1 ∷ 24 ∷ 25 ∷ 26 ∷ []);
       spelled =
           record {
             batch = 77;
@@ -276,9 +277,11 @@ spelledTable =
             allocations =
                 taking 4 20 0 5 6
                 ∷ taking 7 21 0 8 9
-                ∷ taking 1 22 1 2 3
-                ∷ taking 4 23 2 5 6
-                ∷ taking 7 24 2 8 9
+                ∷ taking 10 22 0 11 12
+                ∷ taking 1 23 1 2 3
+                ∷ taking 4 24 2 5 6
+                ∷ taking 7 25 2 8 9
+                ∷ taking 10 26 2 11 12
                 ∷ [];
           };
     }
