@@ -20,10 +20,10 @@ use Rattle.base_rulings.specs.declared.Ruling.{Ruling}
 use Rattle.base_rulings.specs.declared.Ruling.the-variants.{Accepted, Refused}
 use Rattle.base_rulings.specs.Answer.{refuse, refused}
 use Rattle.spec_plain.specs.declared.Allocation.{Allocation}
-use Rattle.spec_plain.specs.Plain.{State, Offer, Draft, newJob, drafted}
-use Rattle.spec_rulebook.specs.Book.{Call, plan, send, clock, retire}
-use Rattle.theorem_demands.specs.Cases.{Expect, earliest, latest, Case}
-use Rattle.theorem_demands.specs.ProvingTable.{u32s, plant, jobJ, offerM, usual, J}
+use Rattle.spec_plain.specs.Plain.{State, Offer, Draft, withJobs, withLines, newJob, drafted}
+use Rattle.spec_rulebook.specs.Book.{Call, plan, send, clock, retire, fresh}
+use Rattle.theorem_demands.specs.Cases.{earliest, latest, Case}
+use Rattle.theorem_demands.specs.ProvingTable.{u32s, plant, jobJ, offerM, settingsFrom, usual, J}
 
 -- ---- plants and offers
 
@@ -209,12 +209,8 @@ AllDraft (c ∷ cs) = Drafts c × AllDraft cs
 -- jobs of so many points, and a line of resource 0 that holds so many uses
 abbrev stateWith : List ℕ → ℕ → State
 stateWith points uses =
-    record {
-      jobs = map (λ (n : ℕ). newJob n 0) points;
-      lines = times uses (record { point = 1; offset = 0; length = 1 }) ∷ times 15 [];
-      clock = 0;
-      settings = record { horizon = 1000; lead = 5 };
-    }
+    withLines (withJobs (fresh (settingsFrom 1000 5) .state) (map (λ (n : ℕ). newJob n 0) points))
+    (times uses (record { point = 1; offset = 0; length = 1 }) ∷ times 15 [])
 
 -- one step, with these allocations
 abbrev offerWith : List Allocation → Offer
