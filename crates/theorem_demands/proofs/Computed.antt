@@ -2,7 +2,9 @@
 -- is refused here. Assumes nothing.
 --   plant-length, offer-length    the bytes are as many as document 01 says
 --   Computes, AllCompute          what is computed of a case, of each of a list
---   computed, further-computed    both tables compute;  drafts-computed: the table of limits;  shownOpen: the definitions to unfold for it
+--   computed, further-computed    both tables compute;  shownOpen: the definitions to unfold for it
+--   drafts-computed               the table of limits
+--   plants-computed, parts-computed, offers-computed, spelled-computed   the tables of what is read from bytes
 use mathlib.Core.Path.{_≡_, refl}
 use mathlib.Core.Bool.{true}
 use mathlib.Core.List.{List, [], _∷_}
