@@ -9,7 +9,7 @@
 --   dropped-gapTable        a good table stays one
 use mathlib.Core.List.{List}
 use mathlib.Core.Logic.{_⊎_}
-use mathlib.Core.Path.{_≡_, sym, _∙_, ap}
+use mathlib.Core.Path.{_≡_, sym, _∙_, ap, subst}
 use Prim.Native.Nat.{ℕ, zero, _+_, _-_, _*_, _≤_, _<_}
 use native.Mathlib.Decide.{decLt}
 use native.Mathlib.Omega.{arith}
@@ -130,7 +130,8 @@ columns-dropped l x y z f d left a o size le few ha eo first second third =
     inside : (k : ℕ) → a * side ≤ k → k < (a + 1) * side → k < length l → getD z k 0 ≡ droppedCell l f d left k
     inside k lo hi h =
         let place : a * side + (k - a * side) ≡ k = omega arith in
-        rw (← place) (one (k - a * side) (omega arith) (decLt (k - a * side) f) (decLt (k - a * side) left))
+        let here = one (k - a * side) (omega arith) (decLt (k - a * side) f) (decLt (k - a * side) left) in
+        subst (λ (i : ℕ). getD z i 0 ≡ droppedCell l f d left i) place here
 
 -- of a list m whose rows before a are written, the cells that row a comes from are still those of l
 pub rows-next :
@@ -162,7 +163,7 @@ rows-next l m x f d left a size few ha is out =
         let place : a * side + (k - a * side) ≡ k = omega arith in
         ap (λ (w : List ℕ). getD w k 0) out
         ∙ rewritten-in now m (a * side) ((a + 1) * side) k lo hi (omega (arith, long))
-        ∙ rw (← place) (one (k - a * side) (omega arith) (decLt (k - a * side) left))
+        ∙ subst (λ (i : ℕ). droppedCell m f d left i ≡ droppedCell l f d left i) place (one (k - a * side) (omega arith) (decLt (k - a * side) left))
 
 -- the rows that are left are written in m, and all past them is cleared in x
 pub rest-cleared :

@@ -32,7 +32,7 @@ abbrev entry-of : tie.After-enum-told → tie.Start
 entry-of c = search
 
 format-good : (c : tie.After-enum-told) → offerRuling (entry-of c .args .plant .now) (entry-of c .args .offer .now) ≡ Accepted
-format-good c = cc
+format-good c = let read : tie.After-read-offer = search in sym (read .read-offer .ensures) ∙ c .enum-told .given .1
 
 offer-long : (c : tie.After-enum-told) → 24 ≤ length (entry-of c .args .offer .now)
 offer-long c = read-of (entry-of c .args .plant .now) (entry-of c .args .offer .now) (format-good c) .long
@@ -48,14 +48,14 @@ returns-2 c = let checked : tie.After-check-consistency = search in
     unanswered (A .w .now) _ _ _ (bad-facts (boardIn (A .w .now)) (A .plant .now) (A .offer .now) (entry .pre .1 .1) (format-good read) _ facts)
 
 check-chain-requires : tie.Need-check-chain-requires
-check-chain-requires c κs = (search, search, (cc))
+check-chain-requires c κs = let read : tie.After-enum-told = search in let P = entry-of read .pre in (P .1 .1, P .1 .2, format-good read)
 
 -- past the check of its facts
 abbrev read-before : tie.After-enum-told2 → tie.After-enum-told
 read-before c = search
 
 consistent : (c : tie.After-enum-told2) → consistencyRuling (entry-of (read-before c) .args .offer .now) ≡ Accepted
-consistent c = cc
+consistent c = let checked : tie.After-check-consistency = search in sym (checked .check-consistency .ensures) ∙ c .enum-told2 .given .1
 
 returns-3 : tie.Need-returns-3
 returns-3 c = let checked : tie.After-check-chain = search in
@@ -67,10 +67,10 @@ returns-3 c = let checked : tie.After-check-chain = search in
     (bad-chain (boardIn (A .w .now)) (A .plant .now) (A .offer .now) (entry .pre .1 .1) (format-good read) (consistent sound) _ chain)
 
 read-durations-requires : tie.Need-read-durations-requires
-read-durations-requires c κs = (search, search, (cc))
+read-durations-requires c κs = let read : tie.After-enum-told = search in let P = entry-of read .pre in (P .1 .1, P .1 .2, format-good read)
 
 read-allocations-requires : tie.Need-read-allocations-requires
-read-allocations-requires c κs = (search, search, (cc), (search needs))
+read-allocations-requires c κs = let read : tie.After-enum-told = search in let P = entry-of read .pre in (P .1 .1, P .1 .2, format-good read, (search needs))
 
 u32-at-requires : tie.Need-u32-at-requires
 u32-at-requires c κs = let read : tie.After-enum-told = search in omega (arith, offer-long read)
@@ -78,7 +78,7 @@ u32-at-requires c κs = let read : tie.After-enum-told = search in omega (arith,
 -- past the check of its chain
 chain-runs :
     (c : tie.After-enum-told3) → (let entry : tie.Start = search in chainRuling (entry .args .plant .now) (entry .args .offer .now) ≡ Accepted)
-chain-runs c = cc
+chain-runs c = let checked : tie.After-check-chain = search in sym (checked .check-chain .ensures) ∙ c .enum-told3 .given .1
 
 -- the offer that was read
 sized-at : (c : tie.After-enum-told) → SizedOffer (offerOf (entry-of c .args .plant .now) (entry-of c .args .offer .now))
