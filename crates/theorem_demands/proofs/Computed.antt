@@ -68,11 +68,13 @@ further-computed =
     both (refl, refl, refl) (both (refl, refl, refl) (both (refl, refl, refl) (both (refl, refl, refl) (
     both (refl, refl, refl) (both (refl, refl, refl) (both (refl, refl, refl) (both (refl, refl, refl) (
     both (refl, refl, refl) (both (refl, refl, refl) (both (refl, refl, refl) (both (refl, refl, refl) (
-    both (refl, refl, refl) (both (refl, refl, refl) tt)))))))))))))))))))))))))))))
+    both (refl, refl, refl) (both (refl, refl, refl) (both (refl, refl, refl) (both (refl, refl, refl) (
+    both (refl, refl, refl) tt))))))))))))))))))))))))))))))))
 
 pub drafts-computed : AllDraft draftTable
 unfolding computing
-drafts-computed = (refl, (refl, (refl, (refl, (refl, (refl, (refl, (refl, (refl, tt)))))))))
+drafts-computed =
+    (refl, (refl, (refl, (refl, (refl, (refl, (refl, (refl, (refl, (refl, (refl, (refl, tt))))))))))))
 
 -- plant files, the parts that they hand out, offers, and an offer as it is read
 pub plants-computed : AllPlants plantTable
@@ -83,11 +85,13 @@ plants-computed =
     both refl (both refl (both refl (both refl (both refl (both refl (both refl (both refl (
     both refl (both refl (both refl (both refl (both refl (both refl (both refl (both refl (
     both refl (both refl (both refl (both refl (both refl (both refl (both refl (both refl (
-    both refl (both refl (both refl (both refl tt)))))))))))))))))))))))))))))))))))))))))))
+    both refl (both refl (both refl (both refl (both refl (both refl (both refl (both refl (
+    both refl (both refl (both refl (both refl tt)))))))))))))))))))))))))))))))))))))))))))))))))))
 
 pub parts-computed : AllParts partTable
 unfolding computing allocationsOf
-parts-computed = both refl (both refl (both refl (both refl tt)))
+parts-computed =
+    both refl (both refl (both refl (both refl (both refl tt))))
 
 pub offers-computed : AllOffers offerTable
 unfolding computing trailingZeros
@@ -101,7 +105,9 @@ offers-computed =
     both (refl, refl) (both (refl, refl) (both (refl, refl) (both (refl, refl) (
     both (refl, refl) (both (refl, refl) (both (refl, refl) (both (refl, refl) (
     both (refl, refl) (both (refl, refl) (both (refl, refl) (both (refl, refl) (
-    both (refl, refl) tt))))))))))))))))))))))))))))))))))))
+    both (refl, refl) (both (refl, refl) (both (refl, refl) (both (refl, refl) (
+    both (refl, refl) (both (refl, refl) (both (refl, refl) (both (refl, refl) (
+    both (refl, refl) (both (refl, refl) (both (refl, refl) (both (refl, refl) tt)))))))))))))))))))))))))))))))))))))))))))))))
 
 pub spelled-computed : AllSpelled spelledTable
 unfolding computing trailingZeros

@@ -10,7 +10,7 @@
 --   times n x           x, n times over
 --   furtherTable        the cases, by what they are about
 --   DraftCase           a state, an offer on it, and what the plain machine says of it before timetables are looked at;  Drafts: it does
---   draftTable          limits that take more jobs or uses to reach than a run can compute
+--   draftTable          the limits of 14 to 16, on states that a run would take too long to reach
 -- Point 0 is the origin; where the first job is J, its points are 1, 2, 3, and the second job's start is 4.
 use mathlib.Core.Path.{_≡_}
 use mathlib.Core.List.{List, [], _∷_, _++_, map}
@@ -116,6 +116,8 @@ batches =
     -- rule (e) goes by the newest job of the batch: A2 ends at 6, J at 20, and the next A2 no earlier than J
     usual (plan plant (offerM 8) ∷ plan plant (jobJ 8 0) ∷ plan plant (offerM 8) ∷ []) (Accepted ∷ Accepted ∷ Accepted ∷ [])
     (earliest 2 6 ∷ earliest 5 20 ∷ earliest 7 20 ∷ [])
+    -- of the batch: a newer job of another one stands between
+    ∷ usual (plan plant (jobJ 7 0) ∷ plan plant (offerM 8) ∷ plan plant (offerM 7) ∷ []) (Accepted ∷ Accepted ∷ Accepted ∷ []) (earliest 7 20 ∷ [])
     -- by a sent one too
     ∷ usual (plan plant (jobJ 7 0) ∷ send 0 ∷ plan plant (offerM 7) ∷ []) (Accepted ∷ Accepted ∷ Accepted ∷ []) (earliest 5 20 ∷ [])
     -- 0 is no batch, and 9 is one; another batch is another batch, by its high bits too
@@ -134,14 +136,19 @@ dispatching =
     -- an allocation that outlasts its step: the last point is at 6, and the job retires at 35
     usual (plan long (offer 0 1 (0 ∷ 0 ∷ [])) ∷ send 0 ∷ clock 34 ∷ retire ∷ []) (Accepted ∷ Accepted ∷ Accepted ∷ refuse 21 ∷ []) []
     ∷ usual (plan long (offer 0 1 (0 ∷ 0 ∷ [])) ∷ send 0 ∷ clock 35 ∷ retire ∷ []) (Accepted ∷ Accepted ∷ Accepted ∷ Accepted ∷ []) []
-    -- a retired job's effect stays: the second job, behind the first in the line, starts at 35 as before
-    ∷ usual (plan long (offer 0 1 (0 ∷ 0 ∷ [])) ∷ plan long (offer 0 1 (0 ∷ 1 ∷ [])) ∷ send 0 ∷ clock 30 ∷ []) (times 4 Accepted) (earliest 3 35 ∷ [])
+    -- a second job, behind the first in the line, starts at 35; sent, it still does when the first has retired
+    ∷ usual (plan long (offer 0 1 (0 ∷ 0 ∷ [])) ∷ plan long (offer 0 1 (0 ∷ 1 ∷ [])) ∷ send 0 ∷ clock 20 ∷ []) (times 4 Accepted) (earliest 3 35 ∷ [])
     ∷ usual (plan long (offer 0 1 (0 ∷ 0 ∷ [])) ∷ plan long (offer 0 1 (0 ∷ 1 ∷ [])) ∷ send 1 ∷ clock 35 ∷ retire ∷ []) (times 5 Accepted)
     (earliest 1 35 ∷ latest 1 35 ∷ [])
-    -- 18 past the list and of a sent job; 19 back and past H; a job that is not sent stays
+    -- a place is one of the list as it is: what was job 1 is job 0 when the first has retired
+    ∷ usual (moves ∷ moves ∷ send 0 ∷ clock 15 ∷ retire ∷ send 1 ∷ send 0 ∷ []) (times 5 Accepted ++ (refuse 18 ∷ Accepted ∷ []))
+    (earliest 1 20 ∷ latest 1 20 ∷ [])
+    -- 18 past the list and of a sent job; 19 back and past H, also where 20 would come
     ∷ usual (J ∷ send 1 ∷ send 0 ∷ send 0 ∷ clock 5 ∷ clock 4 ∷ clock 1001 ∷ [])
     (Accepted ∷ refuse 18 ∷ Accepted ∷ refuse 18 ∷ Accepted ∷ refuse 19 ∷ refuse 19 ∷ []) []
-    ∷ usual (retire ∷ J ∷ retire ∷ []) (refuse 21 ∷ Accepted ∷ refuse 21 ∷ []) []
+    ∷ usual (J ∷ clock 1001 ∷ []) (Accepted ∷ refuse 19 ∷ []) []
+    -- there is no job to send or to retire; a job that is not sent stays
+    ∷ usual (send 0 ∷ retire ∷ J ∷ retire ∷ []) (refuse 18 ∷ refuse 21 ∷ Accepted ∷ refuse 21 ∷ []) []
     ∷ []
 
 abbrev pub neighbours : List Case
@@ -212,26 +219,33 @@ stateWith points uses =
     withLines (withJobs (fresh (settingsFrom 1000 5) .state) (map (λ (n : ℕ). newJob n 0) points))
     (times uses (record { point = 1; offset = 0; length = 1 }) ∷ times 15 [])
 
--- one step, with these allocations
+-- steps of 1 ms: one, with these allocations; two, without any
 abbrev offerWith : List Allocation → Offer
 offerWith ps = record { batch = 0; steps = record { shortest = 1; longest = 1 } ∷ []; allocations = ps }
+
+abbrev offerOfTwo : Offer
+offerOfTwo = record { batch = 0; steps = times 2 (record { shortest = 1; longest = 1 }); allocations = [] }
 
 abbrev placedAt : ℕ → Allocation
 placedAt p = record { resource = 0; place = p; step = 0; offset = 0; length = 1 }
 
 abbrev pub draftTable : List DraftCase
 draftTable =
-    -- 14: 62 points and 2 are 64, 63 and 2 are not; sixteen jobs are too many whatever their points
+    -- 14: 62 points and 2 are 64, 63 and 2 are not; with sixteen jobs there another is refused, whatever their points
     record { state = stateWith (times 6 9 ++ times 4 2) 0; offer = offerWith []; ruling = Accepted }
     ∷ record { state = stateWith (times 7 9) 0; offer = offerWith []; ruling = refuse 14 }
     ∷ record { state = stateWith (times 15 2) 0; offer = offerWith []; ruling = Accepted }
     ∷ record { state = stateWith (times 16 2) 0; offer = offerWith []; ruling = refuse 14 }
+    -- the points are the offer's own: 61 and 3 are 64, 62 and 3 are not
+    ∷ record { state = stateWith (times 6 9 ++ (7 ∷ [])) 0; offer = offerOfTwo; ruling = Accepted }
+    ∷ record { state = stateWith (times 6 9 ++ (8 ∷ [])) 0; offer = offerOfTwo; ruling = refuse 14 }
     -- 14 comes before 15
     ∷ record { state = stateWith (times 16 2) 0; offer = offerWith (placedAt 1 ∷ []); ruling = refuse 14 }
     -- 16: a line holds 32; the offer's own count
     ∷ record { state = stateWith (2 ∷ []) 31; offer = offerWith (placedAt 31 ∷ []); ruling = Accepted }
     ∷ record { state = stateWith (2 ∷ []) 31; offer = offerWith (placedAt 0 ∷ placedAt 0 ∷ []); ruling = refused 16 1 }
     ∷ record { state = stateWith (2 ∷ []) 32; offer = offerWith (placedAt 32 ∷ []); ruling = refused 16 0 }
-    -- 15 comes before 16
+    -- of one allocation 15 comes before 16; of two the first's 16 before the second's 15
     ∷ record { state = stateWith (2 ∷ []) 32; offer = offerWith (placedAt 33 ∷ []); ruling = refused 15 0 }
+    ∷ record { state = stateWith (2 ∷ []) 32; offer = offerWith (placedAt 0 ∷ placedAt 34 ∷ []); ruling = refused 16 0 }
     ∷ []

@@ -1,5 +1,5 @@
--- What is read from bytes, case by case: plant files, the parts that they hand out, and offers. For what document 01's cases do not show: each
--- limit at its value and one past it, each field of a record, and the order of refusals.
+-- What is read from bytes, case by case: plant files, the parts that they hand out, and offers. For what document 01's cases do not show: limits at
+-- their value and one past it, the fields of a record, high bytes, and the order of refusals.
 --   withByte, withWord  bytes with another byte, with another u32, at a place
 --   PlantCase           a plant file and its ruling;  plantTable: its cases, by refusals
 --   PartCase            a plant file, an action, and the part that holds its allocations;  partTable: its cases
@@ -63,6 +63,8 @@ trailers =
     -- the index starts a byte too early, or a byte too late
     ∷ ruled (withWord 108 95 plant) (refuse 2)
     ∷ ruled (withWord 108 97 plant) (refuse 2)
+    -- a sum that fits only where it wraps at 32 bits
+    ∷ ruled (u32s (4294967292 ∷ 1 ∷ []) ++ mark) (refuse 2)
     -- 1 comes before 2
     ∷ ruled (withByte 119 0 (withWord 112 0 plant)) (refuse 1)
     ∷ []
@@ -71,14 +73,19 @@ trailers =
 abbrev uses : ℕ → List ℕ
 uses n = action 9 n (joined (times n (0 ∷ 0 ∷ 1 ∷ [])))
 
+-- A0 and A1 alone, and an index that begins a byte behind A1
+abbrev short : List ℕ
+short = take 68 plant ++ (0 ∷ []) ++ u32s (0 ∷ 40 ∷ 69 ∷ 2 ∷ []) ++ mark
+
 abbrev pub records : List PlantCase
 records =
     -- 3: an index entry is where the record before ended, and 0 for the first
     ruled (withWord 96 1 plant) (refused 3 0)
     ∷ ruled (withWord 100 39 plant) (refused 3 1)
     ∷ ruled (withWord 104 69 plant) (refused 3 2)
-    -- A2 with an allocation passes the index
+    -- A2 with an allocation passes the index; so does one that lacks its last byte, by that byte
     ∷ ruled (withByte 92 1 plant) (refused 3 2)
+    ∷ ruled (take 95 plant ++ u32s (0 ∷ 40 ∷ 68 ∷ 95 ∷ 3 ∷ []) ++ mark) (refused 3 2)
     -- n is 4 at most
     ∷ ruled (plantOf (uses 4 ∷ [])) Accepted
     ∷ ruled (plantOf (uses 5 ∷ [])) (refused 3 0)
@@ -87,7 +94,7 @@ records =
     ∷ ruled (withByte 66 1 plant) (refused 3 1)
     ∷ ruled (withByte 95 1 plant) (refused 3 2)
     -- the last one ends a byte short of the index
-    ∷ ruled (take 68 plant ++ (0 ∷ []) ++ u32s (0 ∷ 40 ∷ 69 ∷ 2 ∷ []) ++ mark) (refused 3 1)
+    ∷ ruled short (refused 3 1)
     -- 2 comes before 3
     ∷ ruled (withWord 96 1 (withWord 108 95 plant)) (refuse 2)
     ∷ []
@@ -103,23 +110,29 @@ actions =
     -- resource 0 to 15, offset 0 to 1,000,000, length 1 to 1,000,000
     ∷ ruled (withWord 28 15 plant) Accepted
     ∷ ruled (withWord 28 16 plant) (refused 4 0)
+    ∷ ruled (withWord 28 256 plant) (refused 4 0)
     ∷ ruled (withWord 32 1000000 plant) Accepted
     ∷ ruled (withWord 32 1000001 plant) (refused 4 0)
     ∷ ruled (withWord 36 0 plant) (refused 4 0)
     ∷ ruled (withWord 36 1 plant) Accepted
     ∷ ruled (withWord 36 1000000 plant) Accepted
     ∷ ruled (withWord 36 1000001 plant) (refused 4 0)
-    -- of each allocation
-    ∷ ruled (withWord 28 16 (plantOf (uses 3 ∷ []))) (refused 4 0)
-    ∷ ruled (withWord 40 16 (plantOf (uses 3 ∷ []))) (refused 4 0)
-    ∷ ruled (withWord 52 16 (plantOf (uses 3 ∷ []))) (refused 4 0)
+    -- each allocation is looked at
+    ∷ ruled (withWord 28 16 (plantOf (uses 4 ∷ []))) (refused 4 0)
+    ∷ ruled (withWord 40 16 (plantOf (uses 4 ∷ []))) (refused 4 0)
+    ∷ ruled (withWord 56 1000001 (plantOf (uses 4 ∷ []))) (refused 4 0)
+    ∷ ruled (withWord 72 0 (plantOf (uses 4 ∷ []))) (refused 4 0)
     -- a fact twice in the needs, twice in the makes; but it may be needed, either way, and made, either way
     ∷ ruled (withWord 4 1 plant) (refused 4 0)
     ∷ ruled (withWord 12 2 plant) (refused 4 0)
+    ∷ ruled (plantOf (changing 2147483648 2147483648 0 0 ∷ [])) (refused 4 0)
     ∷ ruled (plantOf (changing 3 12 5 10 ∷ [])) Accepted
-    -- action by action: A0's 4 comes before A1's 3; of one action 3 comes before 4
+    -- action by action: A0's 4 comes before A1's 3, also where that is of its index entry or its end; of one action 3 comes before 4
     ∷ ruled (withWord 16 0 (withByte 65 1 plant)) (refused 4 0)
+    ∷ ruled (withWord 16 0 (withWord 100 39 plant)) (refused 4 0)
+    ∷ ruled (withWord 16 0 short) (refused 4 0)
     ∷ ruled (withWord 16 0 (withByte 25 1 plant)) (refused 3 0)
+    ∷ ruled (withWord 56 0 short) (refused 3 1)
     ∷ []
 
 abbrev pub plantTable : List PlantCase
@@ -145,9 +158,10 @@ partTable =
     -- each action's own, all of them and nothing else
     record { bytes = mixed; number = 0; part = u32s (1 ∷ 2 ∷ 3 ∷ []) }
     ∷ record { bytes = mixed; number = 1; part = u32s (4 ∷ 5 ∷ 6 ∷ 7 ∷ 8 ∷ 9 ∷ 10 ∷ 11 ∷ 12 ∷ []) }
-    -- an action that the file lacks, though there are bytes where it would stand; and a bad file
+    -- an action that the file lacks, though there are bytes where it would stand; and a bad file, whichever of its actions is bad
     ∷ record { bytes = plantOf (times 7 (action 1 0 [])); number = 7; part = [] }
     ∷ record { bytes = withWord 16 0 mixed; number = 1; part = [] }
+    ∷ record { bytes = withWord 56 0 mixed; number = 0; part = [] }
     ∷ []
 
 -- ---- offers
@@ -184,6 +198,7 @@ layouts =
     ∷ checked plant (offer 0 0 []) (refuse 7)
     ∷ checked (plantOf (action 10 0 [] ∷ [])) (offer 0 8 (times 8 0)) Accepted
     ∷ checked (plantOf (action 10 0 [] ∷ [])) (offer 0 9 (times 9 0)) (refuse 7)
+    ∷ checked plant (withWord 20 257 (jobJ 0 0)) (refuse 7)
     -- 8: no step, an action number cut off, a place cut off, in step 1 too
     ∷ checked plant (take 24 (jobJ 0 0)) (refused 8 0)
     ∷ checked plant (take 27 (jobJ 0 0)) (refused 8 0)
@@ -191,10 +206,17 @@ layouts =
     ∷ checked plant (take 35 (jobJ 0 0)) (refused 8 1)
     -- the plant has no action 3
     ∷ checked plant (withWord 32 3 (jobJ 0 0)) (refused 8 1)
+    ∷ checked plant (withWord 32 256 (jobJ 0 0)) (refused 8 1)
     -- 9: a byte left over
     ∷ checked plant (jobJ 0 0 ++ (0 ∷ [])) (refuse 9)
-    -- the plant comes before the offer; 9 comes before 10, and 10 before 13
+    -- the plant comes before the offer: 1, 2 and 4 before 7
     ∷ checked (withByte 119 0 plant) (take 23 (jobJ 0 0)) (refuse 1)
+    ∷ checked (withWord 112 0 plant) (take 23 (jobJ 0 0)) (refuse 2)
+    ∷ checked (withWord 16 0 plant) (take 23 (jobJ 0 0)) (refused 4 0)
+    -- 7 comes before 8 and before 9, 8 before 9, 9 before 10, and 10 before 11
+    ∷ checked plant (withWord 20 9 (jobJ 0 0)) (refuse 7)
+    ∷ checked plant (withWord 20 0 (jobJ 0 0)) (refuse 7)
+    ∷ checked plant (withWord 24 3 (jobJ 0 0)) (refused 8 0)
     ∷ checked plant (withWord 8 1 (jobJ 0 0 ++ (0 ∷ []))) (refuse 9)
     ∷ checked plant (withWord 16 4 (withWord 4 0 (jobJ 0 0))) (refuse 10)
     ∷ []
@@ -219,6 +241,9 @@ chains =
     -- 10: known both ways, wanted both ways
     ∷ checked changes (wanting 1 1 0 0 (2 ∷ [])) (refuse 10)
     ∷ checked changes (wanting 0 0 1 1 (2 ∷ [])) (refuse 10)
+    -- also where 13 or 11 would come
+    ∷ checked changes (wanting 1 1 2 0 (2 ∷ [])) (refuse 10)
+    ∷ checked changes (wanting 1 1 8 0 (0 ∷ [])) (refuse 10)
     -- 11: a step makes false what is needed true, or true what is needed false
     ∷ checked changes (wanting 1 2 8 0 (0 ∷ [])) (refused 11 0)
     ∷ checked changes (wanting 1 2 0 4 (0 ∷ [])) (refused 11 0)
@@ -229,6 +254,7 @@ chains =
     -- at one step 11 comes before 12; step by step, last first; both come before 13
     ∷ checked changes (wanting 1 2 8 1 (0 ∷ [])) (refused 11 0)
     ∷ checked changes (wanting 1 2 8 1 (0 ∷ 3 ∷ [])) (refused 11 1)
+    ∷ checked changes (wanting 4 8 0 1 (1 ∷ 0 ∷ [])) (refused 12 1)
     ∷ checked changes (wanting 0 0 0 1 (0 ∷ [])) (refused 12 0)
     -- 13: an unknown fact is neither, and one known the other way is not known so
     ∷ checked changes (wanting 0 2 4 8 (0 ∷ [])) (refused 13 0)
@@ -239,6 +265,7 @@ chains =
     ∷ checked changes (wanting 0 0 2 1 (2 ∷ [])) (refused 13 0)
     ∷ checked changes (wanting 0 0 1 2 (2 ∷ [])) (refused 13 0)
     ∷ checked changes (wanting 0 0 2147483648 0 (2 ∷ [])) (refused 13 31)
+    ∷ checked changes (wanting 0 0 0 2147483648 (2 ∷ [])) (refused 13 31)
     -- what a step makes is struck before its own needs are added: what it needs and makes is needed before it
     ∷ checked changes (wanting 0 2 1 2 (3 ∷ [])) (refused 13 0)
     ∷ checked changes (wanting 1 0 1 2 (3 ∷ [])) (refused 13 1)
