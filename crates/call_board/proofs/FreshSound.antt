@@ -2,7 +2,7 @@
 --   zeros-at         a list of zeros
 --   zero-unsound     the zero board fails the test: its horizon is 0
 --   fresh-origin, fresh-elsewhere, fresh-live   the cells of a fresh table: a gap of 0 at the origin, 0 everywhere else
---   fresh-table      it is a good table of one point;  fresh-sound: the fresh board is sound
+--   fresh-cells      they are a good table of one point;  fresh-sound: the fresh board is sound
 use Prim.Native.Nat.{ℕ, zero, suc, _+_, _*_, _≤_, _<_}
 use mathlib.Core.Path.{_≡_, refl, _∙_, ap}
 use mathlib.Core.Logic.{_⊎_, inl, inr}
@@ -16,7 +16,7 @@ use Rattle.part_lines.specs.ArrayLists.{lineOf, linesFrom, noLine}
 use Rattle.spec_stn.specs.Table.{bias}
 use Rattle.spec_rulebook.specs.Book.{emptyLines, fresh}
 use Rattle.part_gaps.specs.Cells.{cell}
-use Rattle.part_gaps.specs.GapTable.{GapTable}
+use Rattle.part_gaps.proofs.GapTable.{GoodCells, table-of}
 use Rattle.spec_plain.specs.declared.Settings.{Settings}
 use Rattle.call_board.specs.Boards.{badSettings, freshCells, freshBoard, zeroBoard}
 use Rattle.base_lists.specs.All.{All}
@@ -56,8 +56,8 @@ fresh-elsewhere k h = others-set cellCount bias k h
 fresh-live : (i j : ℕ) → i < 1 → j < 1 → cell freshCells i j ≡ bias
 fresh-live i j hi hj = let first : i * side + j ≡ 0 = omega arith in ap (λ (k : ℕ). getD freshCells k 0) first ∙ fresh-origin
 
-pub fresh-table : (H : ℕ) → GapTable freshCells 1 H
-fresh-table H =
+pub fresh-cells : (H : ℕ) → GoodCells freshCells 1 H
+fresh-cells H =
     record {
       closed =
           record {
@@ -105,5 +105,5 @@ module _ (s : Settings) (good : badSettings s ≡ false) where
         uses = λ k lt. empty-uses 0 16 k;
         sent-first = tt;
         sent-still = tt;
-        table = fresh-table (s .horizon);
+        table = table-of freshCells 1 (s .horizon) (fresh-cells (s .horizon));
       }

@@ -22,6 +22,7 @@ use Rattle.part_lines.specs.Asked.{Sized, Short, AllShort, Lined}
 use Rattle.part_lines.proofs.Lists.{map-at}
 use Rattle.spec_stn.specs.Table.{Closed}
 use Rattle.part_gaps.specs.Cells.{tableOf}
+use Rattle.part_gaps.proofs.GapTable.{cells-of}
 use Rattle.part_boardwords.specs.Board.{Board}
 use Rattle.part_sound.specs.Sound.{pointsOf, SizedUse, Sound}
 use Rattle.base_lists.specs.All.{All}
@@ -49,7 +50,7 @@ module _ (b : Board) (s : Sound b) where
       go false q = let far = ltb-false k 16 q in rw (past-end (b .lines) k (omega (arith, e, far))) (omega arith)
 
   pub closed : Closed (suc (total (jobsOf (b .jobs)))) (tableOf (b .gaps))
-  closed = s .table .closed
+  closed = cells-of (b .gaps) (suc (pointsOf b)) (b .settings .horizon) (omega arith) (s .horizon .1) (s .table) .closed
 
   -- the line of a resource, as the plain machine has it
   line-is : length (b .lines) ≡ resources → (k : ℕ) → k < resources → getD (linesOf (b .lines)) k [] ≡ lineOf (getD (b .lines) k noLine)

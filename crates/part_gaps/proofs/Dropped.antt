@@ -6,7 +6,7 @@
 --   rest-cleared            with all past the rows that are left cleared, the points are dropped
 --   dropped-length          the list has as many cells as any
 --   dropped-agree           it holds the table of the points left;  dropped-rest: freed cells hold 0
---   dropped-gapTable        a good table stays one
+--   dropped-good            good cells stay good
 use mathlib.Core.List.{List}
 use mathlib.Core.Logic.{_⊎_}
 use mathlib.Core.Path.{_≡_, sym, _∙_, ap, subst}
@@ -21,7 +21,7 @@ use Rattle.spec_stn.specs.Table.{Closed, Agree, pick, oldNumber}
 use Rattle.spec_stn.proofs.Agree.{agree-closed}
 use Rattle.spec_stn.proofs.Pick.{pick-closed, old-low, old-high, old-lt}
 use Rattle.part_gaps.specs.Cells.{cell, tableOf, overlaid, droppedCell, dropped}
-use Rattle.part_gaps.specs.GapTable.{GapTable}
+use Rattle.part_gaps.proofs.GapTable.{GoodCells}
 use Rattle.part_gaps.proofs.Overlaid.{overlay-in, overlay-out, overlaid-length, overlaid-agree, overlaid-rest}
 
 pub old-most : (f d x : ℕ) → oldNumber f d x ≤ x + d
@@ -224,9 +224,9 @@ module _ (l : List ℕ) (f d n : ℕ) (few : n ≤ side) where
       ∙ getD-replicate cellCount (a * side + b) 0 0 (omega arith)
 
   -- the origin stays
-  pub dropped-gapTable : (H : ℕ) → 0 < f → d < n → GapTable l n H → GapTable (dropped l f d n) (n - d) H
+  pub dropped-good : (H : ℕ) → 0 < f → d < n → GoodCells l n H → GoodCells (dropped l f d n) (n - d) H
   unfolding pick
-  dropped-gapTable H z some g =
+  dropped-good H z some g =
       record {
         closed = closed;
         rest = λ i j hi hj past. dropped-rest i j hi hj past;

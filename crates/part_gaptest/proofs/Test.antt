@@ -3,7 +3,7 @@
 --   limit-live, limit-rest      the limit of a live column and of the others
 --   inRange-row                 each cell of a live row is at most its limit;  inRange-bounded: so sums of live cells are small
 --   inRange-rest                every other cell is 0
---   gapTable-to, gapTable-of    the test is true exactly where GapTable holds
+--   good-to, good-of            the test is true exactly where the cells are good;  gapTable-to, gapTable-of: exactly where GapTable holds
 use mathlib.Core.Bool.{true, false, _&&_}
 use mathlib.Core.List.{List}
 use mathlib.Core.Logic.{_⊎_, inl, inr}
@@ -21,6 +21,7 @@ use Rattle.base_lists.proofs.AllBelow.{both-true, allBelow-to, allBelow-of, all
 use Rattle.spec_stn.specs.Table.{bias}
 use Rattle.part_gaps.specs.Cells.{cell, tableOf, Bounded}
 use Rattle.part_gaps.specs.GapTable.{GapTable}
+use Rattle.part_gaps.proofs.GapTable.{GoodCells, cells-of, table-of}
 use Rattle.part_gaps.proofs.Overlaid.{at-place}
 use Rattle.part_gaptest.specs.Test.{limit, rowInRange, clear, inRange, isDiagonal, inWindows, holds, wayHolds, rowHolds, isClosed, isGapTable}
 
@@ -99,9 +100,9 @@ module _ (l : List ℕ) (n : ℕ) (few : n ≤ side) where
 -- ---- the whole test
 
 module _ (l : List ℕ) (n H : ℕ) (few : n ≤ side) where
-  pub gapTable-to : isGapTable l n H ≡ true → GapTable l n H
+  good-to : isGapTable l n H ≡ true → GoodCells l n H
   unfolding isDiagonal inWindows isClosed
-  gapTable-to h =
+  good-to h =
       let p = both-true (inRange l n) (isDiagonal l n && (inWindows l n H && isClosed l n)) h in
       let q = both-true (isDiagonal l n) (inWindows l n H && isClosed l n) (p .1) in
       let s = both-true (inWindows l n H) (isClosed l n) (q .1) in
@@ -122,9 +123,9 @@ module _ (l : List ℕ) (n H : ℕ) (few : n ≤ side) where
         roof = λ i hi. leb-true _ _ (window i hi .1);
       }
 
-  pub gapTable-of : GapTable l n H → isGapTable l n H ≡ true
+  good-of : GoodCells l n H → isGapTable l n H ≡ true
   unfolding isDiagonal inWindows isClosed
-  gapTable-of g =
+  good-of g =
       let range : inRange l n ≡ true = inRange-of l n few (g .closed .bounded) (g .rest) in
       let diagonal : isDiagonal l n ≡ true = allBelow-of (λ i. eqb (cell l i i) bias) n λ i hi. eq-eqb _ _ (g .closed .diagonal i hi) in
       let windows : inWindows l n H ≡ true =
@@ -137,3 +138,9 @@ module _ (l : List ℕ) (n H : ℕ) (few : n ≤ side) where
       λ j hj.
       allBelow-of (holds l i j) n λ k hk. le-leb _ _ (g .closed .triangle i j k hi hj hk) in
       rw (range, diagonal, windows, closed)
+
+  pub gapTable-to : isGapTable l n H ≡ true → GapTable l n H
+  gapTable-to h = table-of l n H (good-to h)
+
+  pub gapTable-of : 0 < n → H ≤ bias → GapTable l n H → isGapTable l n H ≡ true
+  gapTable-of some small g = good-of (cells-of l n H some small g)

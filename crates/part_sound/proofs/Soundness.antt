@@ -28,8 +28,10 @@ use Rattle.part_lines.specs.Asked.{Sized}
 use Rattle.base_lists.specs.All.{All}
 use Rattle.base_lists.proofs.All.{all-at, all-from, all-map}
 use Rattle.base_lists.proofs.AllBelow.{both-true, allBelow-to, allBelow-of}
-use Rattle.spec_stn.specs.Table.{bias}
-use Rattle.part_gaps.specs.Cells.{cell}
+use Rattle.spec_stn.specs.Table.{bias, Closed, Still}
+use Rattle.spec_stn.proofs.Fits.{still-sum, sum-still}
+use Rattle.part_gaps.specs.Cells.{cell, tableOf}
+use Rattle.part_gaps.proofs.GapTable.{cells-of}
 use Rattle.part_gaptest.specs.Test.{isGapTable}
 use Rattle.part_gaptest.proofs.Test.{gapTable-to, gapTable-of}
 use Rattle.part_boardwords.specs.Board.{Board}
@@ -205,19 +207,15 @@ first-of (j ∷ js) p = go (first-of js (p .1)) (j .sent) refl
 -- ---- the points of sent jobs stand still
 
 module _ (l : List ℕ) where
-  abbrev Still : ℕ → ℕ → Type 0
-  Still x m = (i : ℕ) → x ≤ i → i < x + m → cell l 0 i + cell l i 0 ≡ bias + bias
+  abbrev AllStill : ℕ → ℕ → Type 0
+  AllStill x m = (i : ℕ) → x ≤ i → i < x + m → Still (tableOf l) i
 
-  stand-to : (x m : ℕ) → standStill l x m ≡ true → Still x m
+  stand-to : (x m : ℕ) → standStill l x m ≡ true → AllStill x m
   unfolding standStill
   stand-to x m h i from to =
       let same : x + (i - x) ≡ i = omega arith in
       let at = allBelow-to (λ k. eqb (cell l 0 (x + k) + cell l (x + k) 0) (bias + bias)) m h (i - x) (omega arith) in
-      eqb-true (cell l 0 i + cell l i 0) (bias + bias) (rw same at at)
-
-  stand-of : (x m : ℕ) → Still x m → standStill l x m ≡ true
-  unfolding standStill
-  stand-of x m s = allBelow-of _ m (λ k lt. eq-eqb _ _ (s (x + k) (omega arith) (omega arith)))
+      sum-still (tableOf l) i (eqb-true (cell l 0 i + cell l i 0) (bias + bias) (rw same at at))
 
   still-to : (x : ℕ) (js : List Job) → stillSent l x js ≡ true → StillSent l x js
   unfolding stillSent
@@ -226,14 +224,21 @@ module _ (l : List ℕ) where
       let p = both-true (stillJob l x j) (stillSent l (x + j .points) js) h in
       (λ sent. stand-to x (j .points) (rw sent at (p .0)), still-to (x + j .points) js (p .1))
 
-  still-of : (x : ℕ) (js : List Job) → StillSent l x js → stillSent l x js ≡ true
-  unfolding stillSent
-  still-of x [] p = refl
-  still-of x (j ∷ js) p = rw (go (j .sent) refl) (still-of (x + j .points) js (p .1))
-    where
-      go : (s : Bool) → j .sent ≡ s → stillJob l x j ≡ true
-      go true e = rw e (stand-of x (j .points) (p .0 e))
-      go false e = rw e
+  -- of a closed table, in which no time is cut off at 0
+  module _ (n : ℕ) (cl : Closed n (tableOf l)) where
+    stand-of : (x m : ℕ) → x + m ≤ n → AllStill x m → standStill l x m ≡ true
+    unfolding standStill
+    stand-of x m live s =
+        allBelow-of _ m (λ k lt. eq-eqb _ _ (still-sum n (tableOf l) cl (x + k) (omega arith) (s (x + k) (omega arith) (omega arith))))
+
+    still-of : (x : ℕ) (js : List Job) → x + total js ≤ n → StillSent l x js → stillSent l x js ≡ true
+    unfolding stillSent total
+    still-of x [] live p = refl
+    still-of x (j ∷ js) live p = rw (go (j .sent) refl) (still-of (x + j .points) js (omega arith) (p .1))
+      where
+        go : (s : Bool) → j .sent ≡ s → stillJob l x j ≡ true
+        go true e = rw e (stand-of x (j .points) (omega arith) (p .0 e))
+        go false e = rw e
 
 -- ---- the board
 
@@ -315,9 +320,10 @@ module _ (b : Board) where
       all-of (SizedLine n) (sizedLine n) (line-of n) (b .lines)
       (all-from (SizedLine n) (b .lines) noLine (λ k lt. (s .lines k (omega arith), s .uses k (omega arith)))) in
       let table : isGapTable (b .gaps) (suc n) (b .settings .horizon) ≡ true =
-      gapTable-of (b .gaps) (suc n) (b .settings .horizon) (omega (arith, s .points)) (s .table) in
+      gapTable-of (b .gaps) (suc n) (b .settings .horizon) (omega (arith, s .points)) (omega arith) (s .horizon .1) (s .table) in
+      let closed = cells-of (b .gaps) (suc n) (b .settings .horizon) (omega arith) (s .horizon .1) (s .table) .closed in
       all-clauses (s .marked) numbers (jobs-of (b .jobs) (s .jobs) (s .sizes) (s .points)) lined (first-of js (s .sent-first)) table
-      (still-of (b .gaps) 1 js (s .sent-still))
+      (still-of (b .gaps) (suc n) closed 1 js (omega arith) (s .sent-still))
 
   -- the one premise: an array of 16 lines has 16 lines
   pub sound-is : length (b .lines) ≡ resources → (sound b ≡ true) ↔ Sound b

@@ -6,6 +6,7 @@
 --   implied-no, -yes     the same of a list of rules and the test `entailsAll`
 --   implied-append       two lists of rules, one after the other: both are implied
 --   latest-far, latest-most   the latest time of a point is attained by `far` from the origin, and no timetable is later there
+--   still-sum, sum-still   a point stands still exactly when its gaps to and from the origin sum to 0
 --   soonest-fits, soonest-origin, soonest-least   the earliest times are a timetable together, and no timetable is sooner anywhere
 use mathlib.Core.Path.{_≡_, refl, sym, _∙_, ap}
 use mathlib.Core.Bool.{Bool, true, false, _&&_, and-assoc}
@@ -13,19 +14,23 @@ use mathlib.Core.List.{List, [], _∷_, _++_}
 use Prim.Native.Nat.{ℕ, _+_, _≤_, _<_}
 use native.Mathlib.Omega.{arith}
 use lib.Dec.{T}
-use lib.IntN.{pos, subℕ}
+use lib.IntN.{pos, _+ℤ_, subℕ}
 use borrow.Author.Tests.{leb-true, leb-false}
 use Rattle.spec_plain.specs.declared.Rule.{Rule}
 use Rattle.spec_plain.specs.Rules.{Times, AllKept, Keeps, KeepsAll}
-use Rattle.spec_plain.proofs.Whole.{up, dn, sub-spec, whole-eq}
-use Rattle.spec_plain.proofs.Rules.{NotLater, kept-to, kept-of, keeps-to, keeps-of}
-use Rattle.spec_stn.specs.Table.{bias, Table, Closed, Fits, far, earliest, latest, soonest, Within, entails, entailsAll}
+use Rattle.spec_plain.proofs.Whole.{up, dn, below-of, of-below, sub-spec, sum-spec, whole-eq}
+use Rattle.spec_plain.proofs.Rules.{NotLater, keeps-to, keeps-of}
+use Rattle.spec_stn.specs.Table.{bias, Table, gap, Closed, Fits, far, earliest, latest, soonest, Still, Within, entails, entailsAll}
 
 pub fits-to : {n : ℕ} {c : Table} {t : Times} → Fits n c t → (i j : ℕ) → i < n → j < n → NotLater t j bias i (c i j)
-fits-to {n} {c} {t} f i j hi hj = kept-to t (record { early = j; more = bias; late = i; slack = c i j }) (f .cell i j hi hj)
+fits-to {n} {c} {t} f i j hi hj =
+    omega (arith, below-of (t j) (t i +ℤ gap c i j) (f .within i j hi hj), sum-spec (t i) (gap c i j), sub-spec (c i j) bias)
 
 pub fits-of : (n : ℕ) (c : Table) (t : Times) → ((i j : ℕ) → i < n → j < n → NotLater t j bias i (c i j)) → Fits n c t
-fits-of n c t f = record { cell = λ i j hi hj. kept-of t (record { early = j; more = bias; late = i; slack = c i j }) (f i j hi hj) }
+fits-of n c t f =
+    record {
+      within = λ i j hi hj. of-below (t j) (t i +ℤ gap c i j) (omega (arith, f i j hi hj, sum-spec (t i) (gap c i j), sub-spec (c i j) bias));
+    }
 
 -- ---- as late after i as can be
 
@@ -134,3 +139,15 @@ unfolding latest
 latest-most n c cl t o f x h =
     let z : 0 < n = omega arith in
     omega (arith, fits-to f 0 x z h, ap up o, ap dn o, cl .diagonal 0 z, cl .triangle 0 x 0 z h z, cl .floor x h)
+
+-- ---- points that stand still
+
+pub still-sum : (n : ℕ) (c : Table) → Closed n c → (x : ℕ) → x < n → Still c x → c 0 x + c x 0 ≡ bias + bias
+unfolding earliest latest
+still-sum n c cl x h still =
+    let z : 0 < n = omega arith in
+    omega (arith, cl .triangle 0 x 0 z h z, cl .diagonal 0 z, cl .floor x h)
+
+pub sum-still : (c : Table) (x : ℕ) → c 0 x + c x 0 ≡ bias + bias → Still c x
+unfolding earliest latest
+sum-still c x sum = omega arith

@@ -19,7 +19,7 @@ use Rattle.spec_plain.specs.Plain.{goes, newNumber}
 use Rattle.spec_plain.proofs.Whole.{up, dn, sub-spec}
 use Rattle.spec_plain.proofs.Rules.{NotLater}
 use Rattle.spec_stn.specs.Table.{bias, Table, Closed, Fits, pick, Still, oldNumber}
-use Rattle.spec_stn.proofs.Fits.{fits-to, fits-of}
+use Rattle.spec_stn.proofs.Fits.{fits-to, fits-of, still-sum}
 
 pub pick-closed : (m n : ℕ) (σ : ℕ → ℕ) (c : Table) → Closed n c → σ 0 ≡ 0 → ((a : ℕ) → a < m → σ a < n) → Closed m (pick σ c)
 unfolding pick
@@ -159,6 +159,9 @@ spread-fits f m n c u z le cl st o fit =
     t : Times
     t = spread f m c u
 
+    sum : (x : ℕ) → f ≤ x → x < f + m → c 0 x + c x 0 ≡ bias + bias
+    sum x lo top = still-sum (n + m) c cl x (omega arith) (st x lo top)
+
     -- the cell of two points that stay
     cell : (a b : ℕ) → a < n + m → b < n + m → (x y : ℕ) → a ≡ oldNumber f m x → b ≡ oldNumber f m y → NotLater t b bias a (c a b)
     cell a b ha hb x y ea eb =
@@ -189,7 +192,7 @@ spread-fits f m n c u z le cl st o fit =
           ap up zero-time,
           ap dn zero-time,
           spread-still f m c u j e,
-          st j lo top,
+          sum j lo top,
           cl .triangle i j 0 hi hj (omega arith),
         )
     go i j hi hj (leaves lo top d) (stays b e) =
@@ -199,7 +202,7 @@ spread-fits f m n c u z le cl st o fit =
           ap up zero-time,
           ap dn zero-time,
           spread-still f m c u i d,
-          st i lo top,
+          sum i lo top,
           cl .triangle 0 i j (omega arith) hi hj,
         )
     go i j hi hj (leaves lo top d) (leaves low high e) =
@@ -207,6 +210,6 @@ spread-fits f m n c u z le cl st o fit =
           arith,
           spread-still f m c u i d,
           spread-still f m c u j e,
-          st i lo top,
+          sum i lo top,
           cl .triangle 0 i j (omega arith) hi hj,
         )

@@ -1,8 +1,8 @@
 -- Closed tables: the gap table of document 01, "the minimal network of Dechter, Meiri and Pearl (1991)". A table is a function of two
 -- point numbers, so that its laws are arithmetic; a cell holds its gap plus a bias, so that it is a natural number.
 --   bias, Table      100,000,000, the largest horizon; the tables
---   gap c i j        the gap from point i to point j: how a cell is read. Where numbers are compared, definitions keep to cells, with the bias on the
---                    other side: sums of naturals, as the code has them
+--   gap c i j        the gap from point i to point j: how a cell is read by all that says what a table means. What is computed of a table keeps to
+--                    cells, with the bias on the other side, as the code adds them; and so does `Closed`, the laws' own form of a good table
 --   Closed n c       c is a minimal network of the first n points
 --   Fits n c t       the timetable t keeps to the cells of the first n points
 --   IsConsistent r c  some timetable of the closed table c keeps the rule r too;  isConsistent r c: the test;  add r c: the table of those that do
@@ -21,9 +21,10 @@ use mathlib.Core.List.{List, [], _∷_}
 use mathlib.Core.Option.{Option, some, none}
 use Prim.Native.Nat.{ℕ, zero, suc, _+_, _-_, _≤_, _<_, min}
 use lib.Dec.{leb, ltb, eqb}
-use lib.IntN.{ℤ, pos, subℕ}
+use lib.IntN.{ℤ, pos, _+ℤ_, subℕ}
+use lib.Signed.{_≤ℤ_}
 use Rattle.spec_plain.specs.declared.Rule.{Rule}
-use Rattle.spec_plain.specs.Rules.{Times, Kept}
+use Rattle.spec_plain.specs.Rules.{Times}
 
 abbrev pub bias : ℕ
 bias = 100000000
@@ -48,7 +49,7 @@ pub record Closed (n : ℕ) (c : Table) : Type 0 where
 
 pub record Fits (n : ℕ) (c : Table) (t : Times) : Type 0 where
   -- time of j minus time of i is at most the gap
-  pub cell : (i j : ℕ) → i < n → j < n → Kept t (record { early = j; more = bias; late = i; slack = c i j })
+  pub within : (i j : ℕ) → i < n → j < n → t j ≤ℤ (t i +ℤ gap c i j)
 
 -- the origin is 0, and k is the gap from i to k later than i
 unfoldable pub far : Table → ℕ → Times
@@ -64,7 +65,7 @@ unfoldable pub soonest : Table → Times
 soonest c x = pos (earliest c x)
 
 abbrev pub Still : Table → ℕ → Type 0
-Still c x = c 0 x + c x 0 ≡ bias + bias
+Still c x = earliest c x ≡ latest c x
 
 -- ---- a rule added
 

@@ -14,8 +14,9 @@ use Rattle.spec_plain.specs.declared.Job.{Job}
 use Rattle.spec_plain.specs.declared.Use.{Use}
 use Rattle.spec_plain.specs.Plain.{State, total, liveCount}
 use Rattle.spec_plain.specs.Rules.{Times, Kept, AllKept}
-use Rattle.spec_plain.proofs.Rules.{kept-append}
+use Rattle.spec_plain.proofs.Rules.{kept-to, kept-of, kept-append}
 use Rattle.spec_stn.specs.Table.{Fits}
+use Rattle.spec_stn.proofs.Fits.{fits-to, fits-of}
 use Rattle.part_gaps.specs.Cells.{cell, tableOf}
 use Rattle.spec_rulebook.specs.Book.{Point, completed, Possible}
 use Rattle.part_boardwords.specs.Board.{Board}
@@ -58,10 +59,13 @@ module _ (l : List ℕ) (t : Point → ℤ) where
       to row rest i j hi hj (no e) = rest i j (omega arith) hj
 
 cells-fit : (l : List ℕ) (n : ℕ) (u : Times) (g : ℕ → ℤ) → Fits n (tableOf l) u ↔ AllKept (completed u g) (tableRules l n n)
-unfolding completed cellRule Kept
+unfolding completed cellRule
 cells-fit l n u g =
-    let all = table-kept l (completed u g) n n in
-    (λ f. all .1 (f .cell), λ k. record { cell = all .0 k })
+    let t : Point → ℤ = completed u g in
+    let all = table-kept l t n n in (
+      λ f. all .1 (λ i j hi hj. kept-of t (cellRule l i j) (fits-to f i j hi hj)),
+      λ k. fits-of n (tableOf l) u (λ i j hi hj. kept-to t (cellRule l i j) (all .0 k i j hi hj)),
+    )
 
 -- ---- the rest of a state
 

@@ -22,9 +22,8 @@ use Rattle.spec_plain.specs.declared.Rule.{Rule}
 use Rattle.spec_plain.specs.Plain.{State, Draft, liveCount, drafted, unsentAt, sentState, clockOk, clockState, starts}
 use Rattle.spec_stn.specs.Table.{Table, Agree, addAll, growAll}
 use Rattle.part_gaps.specs.Cells.{tableOf, grown}
-use Rattle.part_gaps.specs.GapTable.{GapTable}
 use Rattle.part_gaps.proofs.Grown.{grown-length, grown-agree}
-use Rattle.part_gaps.proofs.GapTable.{grown-gapTable}
+use Rattle.part_gaps.proofs.GapTable.{GoodCells, grown-good}
 use Rattle.spec_rulebook.specs.Reading.{Reading, offerOf, past, readingOf}
 use Rattle.spec_rulebook.proofs.Reading.{reading-rules}
 use Rattle.spec_rulebook.specs.Book.{Book, plan, send, clock}
@@ -75,7 +74,7 @@ module _ (b : Board) (w : Shaped b) (s : Sound b) where
   -- that the points of sent jobs stand still comes from the book beside the abstract board
   settled-answered :
       (n : ℕ) (next : State) (o : Option (List ℕ)) (q : Option Table) → AgreeOutcomes (liveCount next) o q → Limits next
-      → ((m : List ℕ) → o ≡ some m → (length m ≡ cellCount) × GapTable m (liveCount next) (next .settings .horizon))
+      → ((m : List ℕ) → o ≡ some m → (length m ≡ cellCount) × GoodCells m (liveCount next) (next .settings .horizon))
       → (R : Ruling → Book → Type 0) → Mirrors R (Model.settled (abstractOf b) n next q)
       → Answered (settled b n next o) (Model.settled (abstractOf b) n next q)
   unfolding AgreeOutcomes settled Model.settled
@@ -107,7 +106,7 @@ module _ (b : Board) (w : Shaped b) (s : Sound b) where
       (λ l e.
       rw (points, z .1)
       (addedAll-good (n + m) H rs (grown (b .gaps) n m H) l size few within
-      (grown-gapTable (b .gaps) n m H (w .gaps) (live-positive (stateOf b)) few small (parts .table)) e))
+      (grown-good (b .gaps) n m H (w .gaps) (live-positive (stateOf b)) few small (parts .table)) e))
       _ (plan-mirrors holds (Draft.go next m rs) i)
 
   pub planned-is : (p o : List ℕ) → planned b p o ≡ heard b (readingOf (stateOf b) p o)

@@ -27,7 +27,7 @@ use Rattle.part_boardwords.specs.Board.{Board}
 use Rattle.part_sound.specs.Sound.{Sound}
 use Rattle.spec_plain.specs.declared.Settings.{Settings}
 use Rattle.call_board.specs.Boards.{stateOf, badSettings, freshCells, freshRuled, freshBoard}
-use Rattle.call_board.proofs.FreshSound.{fresh-table, fresh-sound}
+use Rattle.call_board.proofs.FreshSound.{fresh-cells, fresh-sound}
 use Rattle.theorem_demands.specs.Model as Model
 use Rattle.theorem_demands.specs.Beside.{Sim}
 use Rattle.theorem_demands.proofs.Step.{fresh-sim}
@@ -110,7 +110,7 @@ module _ (s : Settings) (good : badSettings s ≡ false) where
       live : (i j : ℕ) → i < n → j < n → cell (freshBoard s .gaps) i j ≡ bias
       live i j hi hj = unfold freshBoard fresh liveCount total in
           let e : j ≡ i = omega arith in
-          rw e (fresh-table (s .horizon) .closed .diagonal i hi)
+          rw e (fresh-cells (s .horizon) .closed .diagonal i hi)
 
   pub fresh-beside : Sim (abstractOf (started s)) (opened s)
   unfolding freshBoard fresh

@@ -24,7 +24,7 @@ use Rattle.part_lines.proofs.Padded.{length-padded}
 use Rattle.part_lines.proofs.JobLaws.{jobs-back}
 use Rattle.part_lines.proofs.LineLaws.{line-back}
 use Rattle.part_gaps.specs.Cells.{tableOf}
-use Rattle.part_gaps.specs.GapTable.{GapTable}
+use Rattle.part_gaps.proofs.GapTable.{GoodCells, cells-of, table-of}
 use Rattle.part_boardwords.specs.Board.{Board}
 use Rattle.base_lists.specs.All.{All}
 use Rattle.part_sound.specs.Sound.{SizedJob, SizedUse, StillSent, Sound}
@@ -50,7 +50,7 @@ pub record Limits (s : State) : Type 0 where
 pub record Parts (s : State) (l : List ℕ) : Type 0 where
   pub limits : Limits s
   pub cells : length l ≡ cellCount
-  pub table : GapTable l (liveCount s) (s .settings .horizon)
+  pub table : GoodCells l (liveCount s) (s .settings .horizon)
   pub still : StillJobs (tableOf l) 1 (s .jobs)
 
 -- ---- sent jobs, as soundness and as the abstract board say it
@@ -98,7 +98,7 @@ parts-of b w s =
             sent-first = s .sent-first;
           };
       cells = w .gaps;
-      table = s .table;
+      table = cells-of (b .gaps) (liveCount (stateOf b)) (b .settings .horizon) (omega arith) (s .horizon .1) (s .table);
       still = still-to (b .gaps) 1 (jobsOf (b .jobs)) (s .sent-still);
     }
 
@@ -162,5 +162,5 @@ module _ {s : State} {l : List ℕ} (p : Parts s l) where
         uses = λ k h. rw back (line-at (total (s .jobs)) (s .lines) (q .lines) k .1);
         sent-first = rw back (q .sent-first);
         sent-still = rw back (still-of l 1 (s .jobs) (p .still));
-        table = rw back (p .table);
+        table = rw back (table-of l (liveCount s) (s .settings .horizon) (p .table));
       }

@@ -20,8 +20,8 @@ use Rattle.spec_plain.specs.Plain.{State, Leaving, withJobs, total, liveCount, 
 use Rattle.spec_stn.specs.Table.{Agree, entailsAll, pick, oldNumber}
 use Rattle.spec_stn.proofs.Pick.{Number, leaves, stays, number, new-lt, new-positive}
 use Rattle.part_gaps.specs.Cells.{tableOf, dropped}
-use Rattle.part_gaps.specs.GapTable.{GapTable}
-use Rattle.part_gaps.proofs.Dropped.{dropped-length, dropped-agree, dropped-gapTable}
+use Rattle.part_gaps.proofs.GapTable.{GoodCells}
+use Rattle.part_gaps.proofs.Dropped.{dropped-length, dropped-agree, dropped-good}
 use Rattle.spec_rulebook.specs.Book.{Book, retire}
 use Rattle.base_lists.specs.All.{All}
 use Rattle.part_boardwords.specs.Board.{Board}
@@ -157,11 +157,11 @@ module _ (b : Board) (w : Shaped b) (s : Sound b) where
       agree : Agree (liveCount next) (tableOf cells) (pick (oldNumber 1 m) (tableOf (b .gaps)))
       agree = rw (← same) (dropped-agree (b .gaps) 1 m n few)
 
-      table : GapTable cells (liveCount next) (next .settings .horizon)
+      table : GoodCells cells (liveCount next) (next .settings .horizon)
       table =
           let live = z .0 in
           rw (← same, z .1)
-          (dropped-gapTable (b .gaps) 1 m n few (b .settings .horizon) (omega arith) (omega (arith, live, live-positive next)) (parts-of b w s .table))
+          (dropped-good (b .gaps) 1 m n few (b .settings .horizon) (omega arith) (omega (arith, live, live-positive next)) (parts-of b w s .table))
 
       go :
           (t : Bool)

@@ -16,9 +16,8 @@ use Rattle.spec_plain.specs.declared.Rule.{Rule}
 use Rattle.spec_stn.specs.Table.{bias, Table, IsConsistent, isConsistent, add, addAll, Within, Agree}
 use Rattle.spec_stn.proofs.Agree.{agree-add}
 use Rattle.part_gaps.specs.Cells.{tableOf, added}
-use Rattle.part_gaps.specs.GapTable.{GapTable}
 use Rattle.part_gaps.proofs.Added.{added-length, added-agree}
-use Rattle.part_gaps.proofs.GapTable.{added-gapTable}
+use Rattle.part_gaps.proofs.GapTable.{GoodCells, added-good}
 use Rattle.part_settling.specs.Settled.{addedAll, addedEach}
 
 unfoldable pub AgreeOutcomes : ℕ → Option (List ℕ) → Option Table → Type 0
@@ -54,8 +53,8 @@ some-is l m e = cc
 
 -- a rule that was added agreed
 pub addedAll-good :
-    (n H : ℕ) (rs : List Rule) (l m : List ℕ) → length l ≡ cellCount → n ≤ side → Within n rs → GapTable l n H → addedAll rs n l ≡ some m
-    → (length m ≡ cellCount) × GapTable m n H
+    (n H : ℕ) (rs : List Rule) (l m : List ℕ) → length l ≡ cellCount → n ≤ side → Within n rs → GoodCells l n H → addedAll rs n l ≡ some m
+    → (length m ≡ cellCount) × GoodCells m n H
 unfolding addedAll Within IsConsistent
 addedAll-good n H [] l m size few w g e = let same = some-is l m e in (rw (← same) size, rw (← same) g)
 addedAll-good n H (r ∷ rs) l m size few w g e =
@@ -65,9 +64,9 @@ addedAll-good n H (r ∷ rs) l m size few w g e =
     go :
         (b : Bool) → isConsistent r (tableOf l) ≡ b
         → elim b [ true ↦ addedAll rs n (added l n r) | false ↦ none ] ≡ some m
-        → (GapTable (added l n r) n H → addedAll rs n (added l n r) ≡ some m → (length m ≡ cellCount) × GapTable m n H)
-        → (length m ≡ cellCount) × GapTable m n H
-    go true t e rest = rest (added-gapTable l n H r size few g (w .0) (w .1) (leb-true _ _ t)) e
+        → (GoodCells (added l n r) n H → addedAll rs n (added l n r) ≡ some m → (length m ≡ cellCount) × GoodCells m n H)
+        → (length m ≡ cellCount) × GoodCells m n H
+    go true t e rest = rest (added-good l n H r size few g (w .0) (w .1) (leb-true _ _ t)) e
     go false t e rest = absurd (none-no m e)
 
 pub addedAll-each : (n : ℕ) (rs : List Rule) (l m : List ℕ) → addedAll rs n l ≡ some m → addedEach rs n l ≡ m

@@ -12,7 +12,7 @@ use lib.IntN.{pos}
 use Rattle.spec_plain.specs.declared.Job.{Job}
 use Rattle.spec_plain.specs.Plain.{total}
 use Rattle.spec_plain.specs.Rules.{Times}
-use Rattle.spec_stn.specs.Table.{Table, Closed, Fits, Still}
+use Rattle.spec_stn.specs.Table.{Table, Closed, Fits, earliest, latest, Still}
 use Rattle.spec_stn.proofs.Fits.{tight}
 use Rattle.theorem_demands.specs.Beside.{Each, StillJobs, AllHavePoints}
 
@@ -30,14 +30,15 @@ unfolding Each
 each-append P [] ks x a b = b x
 each-append P (j ∷ js) ks x a b = (a .0, each-append P js ks (x + j .points) (a .1) b)
 
--- The gaps to and from the origin sum to 0, and are no larger in a table that allows no more; a sum below 0 no closed table has
+-- The earliest time is no sooner and the latest no later in a table that allows no more; and in no closed table is the one behind the other
 pub still-tight :
     (n m : ℕ) (c d : Table) → Closed n d → 0 < m → m ≤ n → ((t : Times) → t 0 ≡ pos 0 → Fits n d t → Fits m c t)
     → (i : ℕ) → i < m → Still c i → Still d i
+unfolding earliest latest
 still-tight n m c d cl z le f i hi e =
     let o : 0 < n = omega arith in
     let h : i < n = omega arith in
-    omega (arith, tight n m d c cl le f 0 i z hi, tight n m d c cl le f i 0 hi z, cl .triangle 0 i 0 o h o, cl .diagonal 0 o)
+    omega (arith, tight n m d c cl le f 0 i z hi, tight n m d c cl le f i 0 hi z, cl .triangle 0 i 0 o h o, cl .diagonal 0 o, cl .floor i h)
 
 pub still-jobs :
     (c d : Table) (n : ℕ) → ((i : ℕ) → i < n → Still c i → Still d i)

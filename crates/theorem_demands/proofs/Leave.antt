@@ -21,7 +21,7 @@ use Rattle.spec_plain.specs.declared.Use.{Use}
 use Rattle.spec_plain.specs.Plain.{State, endOf, overBy, goes, newNumber, staying, endsBy, allEndBy}
 use Rattle.spec_plain.specs.Rules.{Times, RuleOn, renamed}
 use Rattle.spec_plain.proofs.Rules.{kept-ext, kept-renamed}
-use Rattle.spec_stn.specs.Table.{Table, Within, pick, oldNumber}
+use Rattle.spec_stn.specs.Table.{Table, earliest, latest, Within, pick, oldNumber}
 use Rattle.spec_stn.proofs.Pick.{old-low, old-high, new-lt, Number, leaves, stays, number, goes-old, over-old, spread, spread-stays}
 use Rattle.spec_rulebook.specs.Book.{Point, live, gone, completed, Possible, reindexed}
 use Rattle.theorem_demands.specs.Model.{book}
@@ -103,7 +103,7 @@ module _ (f m : ℕ) (s next : State) (c : Table) (rs : List (RuleOn Point)) (u 
 -- ---- jobs and lines
 
 pub still-after : (m : ℕ) (c : Table) (js : List Job) (x : ℕ) → 0 < x → StillJobs c (x + m) js → StillJobs (pick (oldNumber 1 m) c) x js
-unfolding Each pick
+unfolding Each pick earliest latest
 still-after m c [] x z s = tt
 still-after m c (j ∷ js) x z s = (
   λ i lo hi sent. rw (old-high 1 m i (omega arith), old-low 1 m 0 (omega arith)) (s .0 (i + m) (omega arith) (omega arith) sent),

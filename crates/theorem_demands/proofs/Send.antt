@@ -21,7 +21,7 @@ use Rattle.spec_plain.specs.Rules.{Times, RuleOn, AllKept, KeepsAll}
 use Rattle.spec_plain.proofs.Whole.{up}
 use Rattle.spec_plain.proofs.Rules.{keeps-of}
 use Rattle.spec_plain.proofs.Points.{Below, unsent-below}
-use Rattle.spec_stn.specs.Table.{Table, Closed, Fits, Still, addAll, Within, earliest, soonest}
+use Rattle.spec_stn.specs.Table.{Table, Closed, Fits, Still, addAll, Within, earliest, latest, soonest}
 use Rattle.spec_stn.proofs.Fits.{implied-of, soonest-fits, soonest-origin}
 use Rattle.spec_stn.proofs.Add.{Added, addAll-added}
 use Rattle.spec_rulebook.specs.Book.{Point, AllLeast, made, Sends}
@@ -71,7 +71,7 @@ StillAll d (x ∷ xs) = Still d x × StillAll d xs
 frozen-still :
     (n : ℕ) (d : Table) (v : ℕ → ℕ) (xs : List ℕ) → Closed n d → 0 < n → Below n xs
     → ((t : Times) → t 0 ≡ pos 0 → Fits n d t → KeepsAll t (Plain.freeze v xs)) → StillAll d xs
-unfolding AllKept Plain.freeze Plain.notBefore Plain.notAfter StillAll
+unfolding AllKept Plain.freeze Plain.notBefore Plain.notAfter StillAll earliest latest
 frozen-still n d v [] cl z a k = tt
 frozen-still n d v (x ∷ xs) cl z a k = (
   omega (

@@ -15,7 +15,7 @@ use Rattle.spec_plain.specs.Plain
 use Rattle.spec_plain.specs.Rules.{RuleOn}
 use Rattle.base_lists.specs.Loops.{build}
 use Rattle.base_lists.proofs.Build.{build-at}
-use Rattle.spec_stn.specs.Table.{bias, Table, Still, Agree}
+use Rattle.spec_stn.specs.Table.{bias, Table, earliest, latest, Still, Agree}
 use Rattle.spec_stn.proofs.Agree.{agree-closed, agree-fits}
 use Rattle.spec_rulebook.specs.Book.{Book, Point, Call, Runs}
 use Rattle.spec_rulebook.specs.Book as Rulebook
@@ -29,7 +29,7 @@ use Rattle.theorem_demands.proofs.Tries.{live-positive}
 use Rattle.theorem_demands.proofs.Step.{sim-keeps, sim-exists, fresh-sim}
 
 pub holds-agree : {s : Plain.State} {c : Table} {rs : List (RuleOn Point)} (d : Table) → Agree (Plain.liveCount s) c d → StandsFor s c rs → StandsFor s d rs
-unfolding Plain.liveCount
+unfolding Plain.liveCount earliest latest
 holds-agree {s} {c} d e h =
     record {
       closed = agree-closed n c d e (live-positive s) (h .closed);
