@@ -1,19 +1,20 @@
 -- Refusal 13, by the forward definition: the fact named is needed and not known so, no lower fact is, and the chain itself is no
 -- impossible one, since some full state runs. Assumes nothing.
 --   Small, SmallNeeds     masks of 32 bits, of a pair and of a chain's needs
---   thirteen    refusal 13 with fact k says what `Thirteen` says
+--   thirteen    refusal 13 with fact k says what `Thirteen` says;  thirteen-only: and of no other fact does that hold
 -- The idea: what the regression leaves at the start, l, holds exactly in the states that run. A fact of l is therefore needed; and a
 -- fact that is not in l is not needed, since of the two states that hold just l, one has it false and one has it true.
 use Prim.Native.Nat.{ℕ, _+_, _<_, _^_}
+use native.Mathlib.Decide.{decLt}
 use native.Mathlib.Omega.{arith}
 use mathlib.Core.Path.{_≡_, refl, sym, subst}
 use mathlib.Core.Logic.{_⊎_, inl, inr, ⊎-elim}
 use mathlib.Core.List.{List, [], _∷_}
 use mathlib.Core.Bool.{Bool, true, false, cond, not}
 use lib.Dec.{eqb}
-use borrow.Author.Tests.{eqb-false}
+use borrow.Author.Tests.{eqb-false, ne-eqb}
 use Rattle.base_masks.specs.Mask.{has, share, lowest}
-use Rattle.base_masks.proofs.MaskLaws.{lowest-has, lowest-least, join-lt, strike-lt}
+use Rattle.base_masks.proofs.MaskLaws.{lowest-has, lowest-least, zero-none, join-lt, strike-lt}
 use Rattle.base_rulings.specs.declared.Ruling.the-variants.{Accepted}
 use Rattle.base_rulings.specs.Answer.{cause, refused}
 use Rattle.read_facts.specs.declared.Literals.{Literals}
@@ -115,3 +116,31 @@ module _ (known goal : Literals) (chain : List Action) where
   unfolding factRuling
   thirteen fair needs small s =
       thirteen-at (workBack chain 0 goal) (meaning chain goal 0 fair) (consistent chain goal 0 s small needs)
+
+  -- the other way: a fact of which this holds is the one that the ruling names
+  only-at : (n : Need) → Meaning chain goal n → Consistent n → (k : ℕ) → Thirteen known goal chain k → onNeed known n ≡ refused 13 k
+  unfolding atStart
+  only-at (Facts l) m p k w =
+      let x = lacking known l in
+      let lacks : has x k ≡ true = lacks-lacking l m (p .0) k (w .lacks) in
+      let some : (x ≡ 0 → ⊥) = λ z. zero-none k (subst (λ (y : ℕ). has y k ≡ true) z lacks) in
+      let bound = lacking-small known l (p .1) in
+      let low : (lowest x < k → ⊥) = λ h. w .lowest-lacking (lowest x) h (lacking-lacks l m (p .0) (lowest x) (lowest-has x bound some)) in
+      let high : (k < lowest x → ⊥) = λ h. clash lacks (lowest-least x k h) in
+      let is : lowest x ≡ k = same (lowest x) k low high in
+      rw (ne-eqb x 0 some, is) refl
+    where
+      same : (a b : ℕ) → (a < b → ⊥) → (b < a → ⊥) → a ≡ b
+      same a b f g = go (decLt a b) (decLt b a)
+        where
+          go : Dec (a < b) → Dec (b < a) → a ≡ b
+          go (yes h) d = absurd (f h)
+          go (no h) (yes q) = absurd (g q)
+          go (no h) (no q) = omega arith
+  only-at (Clash c) m p k w = absurd (m (w .some-run .0) (w .some-run .1))
+
+  pub thirteen-only :
+      Fair chain → SmallNeeds chain → Small goal → share (goal .pos) (goal .neg) ≡ false
+      → (k : ℕ) → Thirteen known goal chain k → factRuling known goal chain ≡ refused 13 k
+  unfolding factRuling
+  thirteen-only fair needs small s = only-at (workBack chain 0 goal) (meaning chain goal 0 fair) (consistent chain goal 0 s small needs)

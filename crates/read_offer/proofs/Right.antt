@@ -1,7 +1,7 @@
 -- Demand 2's part on facts, on bytes. Assumes nothing.
 --   fact-check-right   "An offer in right format, with no fact known both ways, passes the fact check exactly when every full state that
 --                      fits the known facts runs through the chain legally to the goal" (a goal with a fact both ways included)
---   thirteen-right     13 names a fact that is needed and not known so, and no lower one is
+--   thirteen-right     13 names a fact that is needed and not known so, and no lower one is;  thirteen-only-right: of no other fact does that hold
 use Prim.Native.Nat.{ℕ, zero, suc, _+_, _≤_, _<_}
 use native.Mathlib.Omega.{arith}
 use mathlib.Core.Path.{_≡_, refl, sym, _∙_}
@@ -21,7 +21,7 @@ use Rattle.read_plant.proofs.Good.{good, makes-apart}
 use Rattle.read_facts.specs.Regression.{factRuling}
 use Rattle.read_facts.specs.Forward.{AllRun, Thirteen}
 use Rattle.read_facts.proofs.Theorem.{Fair, accepted-runs, runs-accepted, clash-runs-not}
-use Rattle.read_facts.proofs.Thirteen.{Small, SmallNeeds, thirteen}
+use Rattle.read_facts.proofs.Thirteen.{Small, SmallNeeds, thirteen, thirteen-only}
 use Rattle.read_offer.specs.Offer.{knownOf, goalOf, stepCount, stepStart, offerRuling, actionOf, chainFrom, chainOf, consistencyRuling, chainRuling}
 use Rattle.read_offer.specs.Offer.{factCheck}
 use Rattle.read_offer.proofs.Steps.{read-of}
@@ -101,3 +101,12 @@ thirteen-right p o bp bo g r k e =
     let past = not-10 (known || goal) (factRuling (knownOf o) (goalOf o) (chainOf p o)) k (on-to-consistency p o g r ∙ e) in
     let apart = neither known goal (past .0) in
     thirteen (knownOf o) (goalOf o) (chainOf p o) (chain-fair p o g r (apart .0)) (small-needs p o 0 (stepCount o) bp) (small-goal o bo) (apart .1) k (past .1)
+
+-- 13 the other way: what `Thirteen` says of a fact is said of the one that the ruling names, and of no other
+pub thirteen-only-right :
+    (p o : List ℕ) → Bytes p → Bytes o → plantRuling p ≡ Accepted → offerRuling p o ≡ Accepted
+    → share (knownOf o .pos) (knownOf o .neg) ≡ false → share (goalOf o .pos) (goalOf o .neg) ≡ false
+    → (k : ℕ) → Thirteen (knownOf o) (goalOf o) (chainOf p o) k → factCheck p o ≡ refused 13 k
+thirteen-only-right p o bp bo g r apart s k w =
+    past-10 p o g r apart s
+    ∙ thirteen-only (knownOf o) (goalOf o) (chainOf p o) (chain-fair p o g r apart) (small-needs p o 0 (stepCount o) bp) (small-goal o bo) s k w

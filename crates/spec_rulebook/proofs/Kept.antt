@@ -2,8 +2,9 @@
 -- retired, and new ones only come behind them. No two points ever get one name, and the origin keeps its own. Assumes nothing.
 --   back, back-reindexed   the point that got this name when the m points from f on left: it undoes `reindexed`
 --   reindexed-apart, reindexed-before   so `reindexed` gives no two points one name; a point before f keeps its own
+--   carried-possible, carried-apart   what that gives: a timetable possible after was possible before; different rules stay different
 --   step-carries       every call, under the names of `renaming`;  runs-carry: every list of calls, under names that come of them
-use mathlib.Core.Path.{_≡_, refl, sym, ap, _∙_}
+use mathlib.Core.Path.{_≡_, refl, sym, ap, subst, _∙_}
 use mathlib.Core.Logic.{_⊎_, ⊎-elim}
 use mathlib.Core.Bool.{Bool, true, false, cond}
 use mathlib.Core.List.{List, [], _∷_, _++_, map, map-id, map-map, map-append, append-assoc, append-nil}
@@ -11,14 +12,16 @@ use Prim.Native.Nat.{ℕ, _+_, _-_, _≤_, _<_}
 use native.Mathlib.Decide.{decLt}
 use native.Mathlib.Omega.{arith}
 use lib.Dec.{ltb}
+use lib.IntN.{ℤ}
 use borrow.Author.Tests.{lt-ltb, le-ltb, le-leb, lt-leb}
 use Rattle.base_rulings.specs.declared.Ruling.{Ruling}
 use Rattle.base_rulings.specs.declared.Cause.{Cause}
 use Rattle.spec_plain.specs.declared.Rule.{Rule}
 use Rattle.spec_plain.specs.Plain
-use Rattle.spec_plain.specs.Rules.{RuleOn, named, renamed}
+use Rattle.spec_plain.specs.Rules.{Times, RuleOn, named, renamed, AllKept}
+use Rattle.spec_plain.proofs.Rules.{kept-append, kept-ext, kept-renamed}
 use Rattle.spec_rulebook.specs.Reading.{Reading, bad, good, readingOf}
-use Rattle.spec_rulebook.specs.Book.{Book, Point, live, gone, Call, plan, send, clock, retire, made, reindexed, Refuses, Settles, Guarded, Plans}
+use Rattle.spec_rulebook.specs.Book.{Book, Point, live, gone, completed, Possible, Call, plan, send, clock, retire, made, reindexed, Refuses, Settles, Guarded, Plans}
 use Rattle.spec_rulebook.specs.Book.{Reads, Sends, Retires, Step, Runs}
 use Rattle.spec_rulebook.specs.Carried.{leavingNames, renaming, Carries}
 
@@ -163,3 +166,43 @@ runs-carry b (c ∷ cs) rs k p =
     let first = step-carries b (p .1) c (p .0) (p .3) in
     let rest = runs-carry (p .1) cs (p .2) k (p .5) in
     (λ x. rest .0 (renaming b c (p .0) x), carried (renaming b c (p .0)) (rest .0) b (p .1) k first (rest .1))
+
+-- ---- what it is for
+
+same-rule : (r s : RuleOn Point) → r .early ≡ s .early → r .more ≡ s .more → r .late ≡ s .late → r .slack ≡ s .slack → r ≡ s
+same-rule r s a m b n = rw (a, m, b, n) refl
+
+at-names : (names : Point → Point) (t : Point → ℤ) (x : Point) → t (names x) ≡ completed (λ k. t (names (live k))) (λ k. t (names (gone k))) x
+unfolding completed
+at-names names t (live k) = refl
+at-names names t (gone k) = refl
+
+at-live : (u : Times) (g : ℕ → ℤ) (k : ℕ) → completed u g (live k) ≡ u k
+unfolding completed
+at-live u g k = refl
+
+module _ (names : Point → Point) (b k : Book) (c : Carries names b k) where
+  -- whatever timetable is possible after the call, one with the same times was possible before it: the live points that stay live have them
+  pub carried-possible :
+      (u : Times) → Possible k u → (w : Times) × Possible b w × ((x y : ℕ) → names (live x) ≡ live y → w x ≡ u y)
+  unfolding Possible
+  carried-possible u p =
+      let g = p .1 .0 in
+      let t : Point → ℤ = completed u g in
+      let all : AllKept t (map (renamed names) (b .rules) ++ c .news) = subst (λ (l : List (RuleOn Point)). AllKept t l) (c .kept) (p .1 .1) in
+      let old : AllKept (λ x. t (names x)) (b .rules) =
+      kept-renamed names t (b .rules) .0 (kept-append t (map (renamed names) (b .rules)) (c .news) .0 all .0) in (
+        λ x. t (names (live x)),
+        (ap t (c .origin) ∙ at-live u g 0 ∙ p .0, ((λ x. t (names (gone x))), kept-ext (λ x. t (names x)) _ (at-names names t) (b .rules) old)),
+        λ x y e. ap t e ∙ at-live u g y,
+      )
+
+  -- different rules stay different
+  pub carried-apart : (r s : RuleOn Point) → renamed names r ≡ renamed names s → r ≡ s
+  unfolding renamed
+  carried-apart r s e =
+      let early : r .early ≡ s .early = c .apart (r .early) (s .early) (ap (λ (q : RuleOn Point). q .early) e) in
+      let late : r .late ≡ s .late = c .apart (r .late) (s .late) (ap (λ (q : RuleOn Point). q .late) e) in
+      let more : r .more ≡ s .more = ap (λ (q : RuleOn Point). q .more) e in
+      let slack : r .slack ≡ s .slack = ap (λ (q : RuleOn Point). q .slack) e in
+      same-rule r s early more late slack

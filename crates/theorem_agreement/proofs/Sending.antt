@@ -1,5 +1,4 @@
 -- Send, in terms of timetables: the points sent are set to their least times.
---   least-one        a point has one least time
 --   frozen-to, -of   the rules that set points are kept exactly when each point has its value
 --   at-least         so, of least times: whatever values the rule book took
 --   sends-least      a send sets its points to their least times
@@ -23,22 +22,9 @@ use Rattle.call_board.specs.Boards.{stateOf}
 use Rattle.theorem_demands.specs.Beside.{Sim}
 use Rattle.theorem_agreement.specs.Abstract.{Shaped, abstractOf, bookOf, Agreed}
 use Rattle.theorem_agreement.specs.Timetables.{Timetable, In, AtLeast, SetLeast}
+use Rattle.spec_rulebook.proofs.Unique.{least-one}
 use Rattle.theorem_agreement.proofs.Books.{sound-sim}
 use Rattle.theorem_agreement.proofs.Exact.{least-over, sim-minimal, made-meant}
-
-pub least-one : (Y : Times → Type 0) (x v w : ℕ) → LeastTime Y x v → LeastTime Y x w → v ≡ w
-least-one Y x v w a b =
-    let p = a .attained in
-    let q = b .attained in
-    omega (
-      arith,
-      below-of (pos v) (q .0 x) (a .least (q .0) (q .1)),
-      below-of (pos w) (p .0 x) (b .least (p .0) (p .1)),
-      ap up (p .2),
-      ap dn (p .2),
-      ap up (q .2),
-      ap dn (q .2),
-    )
 
 module _ (u : Times) (o : u 0 ≡ pos 0) (v : ℕ → ℕ) where
   set-to : (x : ℕ) → Keeps u (notBefore x (v x)) → Keeps u (notAfter x (v x)) → u x ≡ pos (v x)
