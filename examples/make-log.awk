@@ -30,6 +30,23 @@ function sets(text,    names, n, i, sign, sum, seen) {
     return word(sum["yes"]) word(sum["no"])
 }
 
+# the numbers that words in hex spell, each behind a blank
+function numbers(hex,    i, j, n, text) {
+    for (i = 1; i < length(hex); i += 8) {
+        n = 0
+        for (j = 6; j >= 0; j -= 2) n = 256 * n + 16 * digit(substr(hex, i + j, 1)) + digit(substr(hex, i + j + 1, 1))
+        text = text " " n
+    }
+    return text
+}
+function digit(c) { return index("0123456789abcdef", c) - 1 }
+
+# the fields of the actions, as the writer takes them
+function fields(    a, text) {
+    for (a = 0; a < actions; a++) text = text numbers(needs[a] makes[a] takes[a]) " " length(uses[a]) / 24 numbers(uses[a])
+    return actions text
+}
+
 # the plant file: records, their starts, the trailer
 function plant(changed, shortest, longest,    a, records, starts) {
     for (a = 0; a < actions; a++) {
@@ -104,6 +121,7 @@ FNR == NR { stop("not a line of a plant") }
 /^plant$/ { print "plant " plant(-1); next }
 /^plant without its last [0-9]+ bytes$/ { hex = plant(-1); print "plant " substr(hex, 1, length(hex) - 2 * $5); next }
 /^plant with .+ taking [0-9]+ to [0-9]+$/ { print "plant " plant(number($3), $5, $7); next }
+/^write the plant into [0-9]+ bytes$/ { print "write " $5 " " fields(); next }
 /^(plan|fact) sheet / { print $1 " " offer(substr($0, 6)); next }
 /^part / { print "part " number($2); next }
 /^(list|fresh|send|clock|retire|report|check|table|state)( |$)/ { sub(/ *\(.*\)$/, ""); print; next }

@@ -1,8 +1,8 @@
 /* Snipefeather: the admission board's C interface, for C and C++.
  *
- * sf_fact_check is in libfactcheck.a, the board's calls are in libcabi.a. `./install PREFIX` puts both, this header and a pkg-config file into place;
+ * sf_fact_check is in libfactcheck.a, all other calls are in libcabi.a. `./install PREFIX` puts both, this header and a pkg-config file into place;
  * `rt staticlib factcheck` and `rt staticlib cabi` write them to target/staticlib/. They are archives for x86-64 Linux and need nothing but memcpy,
- * memmove and memset. examples/controller.c is a small program to start from.
+ * memmove and memset. examples/controller.c is a small program to start from, and examples/catalogue.c one that writes a plant.
  *
  * The bytes of a plant file and of an offer are laid out as docs/FORMATS.md says, which is installed beside this header's other documents; every
  * refusal, and what a caller does about it, is in docs/REFUSALS.md.
@@ -24,12 +24,13 @@
 extern "C" {
 #endif
 
-/* The version of this interface. The first number changes where a program that was written for it must be changed. */
+/* The version of this interface. The first number changes where a program that was written for it must be changed, the
+ * second where a call is added. */
 #define SF_VERSION_MAJOR 1
-#define SF_VERSION_MINOR 0
+#define SF_VERSION_MINOR 1
 
-/* What a call returns: SF_ACCEPTED, or the first refusal that holds. Behind some stands what sf_plan gives as the refusal's cause; all of these
- * count from 0, allocations through all steps of the offer. */
+/* What a call returns: SF_ACCEPTED, or the first refusal that holds. Behind some stands the value that sf_plan gives in `cause`, and
+ * sf_write_plant in `written`; all of these count from 0, allocations through all steps of the offer. */
 enum sf_number {
     SF_ACCEPTED = 0,        /* accepted */
     SF_NO_PLANT = 1,        /* the plant file has under 12 bytes or lacks the mark */
@@ -55,12 +56,25 @@ enum sf_number {
     SF_BAD_CLOCK = 19,      /* the clock would go back or pass the horizon */
     SF_CLOCK_TOO_LATE = 20, /* no timetable is left after the clock's rules */
     SF_NOT_OVER = 21,       /* there is no job to retire, or the oldest is unsent, or its last point or an allocation ends after the clock */
-    SF_SHORT_LIST = 22      /* the list is shorter than the rows */
+    SF_SHORT_LIST = 22      /* the list is shorter than the rows, or the buffer than the file */
 };
 
 /* The fact check: whether a chain is sure to run through to its goal, whatever is not known of the sheet. Lends a plant file and an offer:
  * nothing is written. SF_ACCEPTED where the chain passes, or the first of 1 to 4 and 7 to 13. Stack: 0.3 KB. */
 uint32_t sf_fact_check(const uint8_t *plant, size_t plant_len, const uint8_t *offer, size_t offer_len);
+
+/* Writes a plant file from its actions' fields into the buffer `plant`. `actions` has SF_ACTION_WORDS words for each action: needs-true, needs-false,
+ * makes-true, makes-false, shortest, longest, the number n of allocations, then four times resource, offset and length; words past the first n
+ * allocations are not looked at. Refusals, in this order: 2 (no action, more than SF_MOST_ACTIONS, or words that are no whole number of actions); 3 (n
+ * above SF_MOST_ALLOCATIONS) and 4, action by action; 22 (`plant_len`, a number of bytes, is below the file's length). Where `written` has a word, it
+ * becomes the action that 3 and 4 speak of, and 0 where there is none; where it has a second one, that becomes the file's length, and 0 where refused.
+ * Bytes past the file, and all of them where refused, stay as they were. The length is 28 bytes for each action, 12 for each allocation, 4 for each
+ * action's index entry, and 12: never more than SF_MOST_PLANT_BYTES. Stack: 0.2 KB. */
+#define SF_ACTION_WORDS 19
+#define SF_MOST_ACTIONS 128
+#define SF_MOST_ALLOCATIONS 4
+#define SF_MOST_PLANT_BYTES 10252
+uint32_t sf_write_plant(const uint32_t *actions, size_t actions_len, uint8_t *plant, size_t plant_len, uint32_t *written, size_t written_len);
 
 /* The board, lent as its words. A board comes from sf_fresh, and goes from call to call. Where each word stands:
  *

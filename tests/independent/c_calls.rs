@@ -21,6 +21,15 @@ macro_rules! c_calls {
                 offer: *const u8,
                 offer_len: usize,
             ) -> u32;
+            #[link_name = concat!($before, "sf_write_plant")]
+            pub fn sf_write_plant(
+                actions: *const u32,
+                actions_len: usize,
+                plant: *mut u8,
+                plant_len: usize,
+                written: *mut u32,
+                written_len: usize,
+            ) -> u32;
             #[link_name = concat!($before, "sf_fresh")]
             pub fn sf_fresh(board: *mut u32, board_len: usize, horizon: u32, lead: u32) -> u32;
             #[link_name = concat!($before, "sf_plan")]

@@ -3,12 +3,12 @@
 --   refused-no, fails-no    a refusal is no acceptance; a record that fails does not end
 --   passed, both-passed     what an accepted check says of its parts
 --   neither, last-of-or, last-of-and   tests made one after the other
---   first-none, first-next, first-ends, first-stops, first-all   the first refusal, check by check
+--   first-none, first-next, first-ends, first-stops, first-all, first-same   the first refusal, check by check
 --   reading-stops, reading-goes-on     a reading record by record: the first that fails decides
 use Prim.Native.Nat.{ℕ, zero, suc, _+_, _<_}
 use native.Mathlib.Omega.{arith}
 use native.Mathlib.Numerals.{add-one}
-use mathlib.Core.Path.{_≡_, refl, sym, ap, subst, _∙_}
+use mathlib.Core.Path.{_≡_, refl, sym, ap, ap₂, subst, _∙_}
 use mathlib.Core.List.{[], _∷_}
 use mathlib.Core.Bool.{Bool, true, false, true≢false, cond, _&&_, _||_}
 use lib.Dec.{eqb}
@@ -99,6 +99,12 @@ first-all f (suc n) k e l = let p = both-passed (firstRefusal f n) (f n) e in go
     go : (b : Bool) → eqb k n ≡ b → f n ≡ Accepted → (k < n → f k ≡ Accepted) → f k ≡ Accepted
     go true q last before = subst (λ (x : ℕ). f x ≡ Accepted) (sym (eqb-true k n q)) last
     go false q last before = let d : k ≡ n → ⊥ = eqb-false k n q in before (omega (arith, d))
+
+-- equal check by check
+pub first-same : (f g : ℕ → Ruling) (n : ℕ) → ((k : ℕ) → k < n → f k ≡ g k) → firstRefusal f n ≡ firstRefusal g n
+unfolding firstRefusal
+first-same f g zero e = refl
+first-same f g (suc n) e = ap₂ andThen (first-same f g n (λ k h. e k (omega arith))) (e n (omega arith))
 
 -- ---- a reading record by record: x is what reading record k finds, and f k is the ruling on it
 

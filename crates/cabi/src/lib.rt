@@ -1,5 +1,5 @@
-// The board's calls from C (include/snipefeather.h), on a board that is lent as its words: each is the call that the programs make, and its answer as
-// a number. It may use the calls and part_boardwords, and decides nothing.
+// The board's calls from C (include/snipefeather.h), on a board that is lent as its words, and the writing of plant files: each is the call that the
+// programs make, and its answer as a number. It may use the calls, write_plant and part_boardwords, and decides nothing.
 use base_rulings::number;
 use base_rulings::value;
 use call_board::fresh;
@@ -10,13 +10,15 @@ use call_report::report;
 use call_retiring::retire;
 use call_sending::send;
 use spec_plain::Settings;
+use write_plant::write_plant;
 ghost use mathlib.Core.Path.{_≡_};
-ghost use lib.ListN.{set};
+ghost use lib.ListN.{length, set};
 ghost use Rattle.base_rulings.specs.Answer.{numberOf, valueOf};
 ghost use Rattle.part_boardwords.specs.Words.{lentBoard};
 ghost use Rattle.call_board.specs.Calls.{planned, sent, clocked, retired};
 ghost use Rattle.call_board.specs.InWords.{wordsAfter, freshRuling, freshWords};
 ghost use Rattle.call_report.specs.Rows.{reportedIn};
+ghost use Rattle.write_plant.specs.Lent.{writeRuling, writtenLength, writtenInto};
 
 // The value is written into the first word, where there is one.
 fn write_cause(cause: &mut [u32], v: u32)
@@ -24,6 +26,15 @@ fn write_cause(cause: &mut [u32], v: u32)
 {
     if 0 < cause.len() {
         cause[0] = v;
+    }
+}
+
+// The length is written into the second word, where there is one.
+fn write_length(written: &mut [u32], n: u32)
+    ensures { λ _. ⌜ now (written .exit) ≡ set (now (written .entry)) 1 n ⌝ }
+{
+    if 1 < written.len() {
+        written[1] = n;
     }
 }
 
@@ -84,4 +95,21 @@ pub extern "C" fn sf_report(board: &[u32], rows: &mut [Row]) -> u32
         × (now (rows .exit) ≡ reportedIn (now (board .entry)) (now (rows .entry)) .rows) ⌝ }
 {
     number(report(board, rows))
+}
+
+// 2, then 3 and 4 action by action, then 22; or the plant file of the actions in front of the buffer, and the rest of it as it was. The value of the refusal
+// and the file's length go into `written`.
+#[no_mangle]
+pub extern "C" fn sf_write_plant(actions: &[u32], plant: &mut [u8], written: &mut [u32]) -> u32
+    ensures number { λ r. ⌜ r ≡ numberOf (writeRuling (now (actions .entry)) (length (now (plant .entry)))) ⌝ }
+    ensures plant { λ _. ⌜ now (plant .exit) ≡ writtenInto (now (actions .entry)) (now (plant .entry)) ⌝ }
+    ensures written { λ _. ⌜ now (written .exit) ≡
+        set (set (now (written .entry)) 0 (valueOf (writeRuling (now (actions .entry)) (length (now (plant .entry))))))
+        1 (writtenLength (now (actions .entry)) (length (now (plant .entry)))) ⌝ }
+{
+    let filed = write_plant(actions, plant);
+    let ruled = filed.ruling;
+    write_cause(written, value(ruled));
+    write_length(written, filed.length as u32);
+    number(ruled)
 }

@@ -7,9 +7,9 @@ use mathlib.Core.Logic.{_⊎_}
 use mathlib.Core.List.{List, [], _∷_}
 use Rattle.log_calls.specs.declared.vocabulary.Word.{Word}
 use Rattle.log_calls.specs.declared.vocabulary.Word.the-variants.{List as ListWord, Plant, Check, Part, Fact, Fresh, Board, Plan, Send, Clock, Retire}
-use Rattle.log_calls.specs.declared.vocabulary.Word.the-variants.{Report, Table, State, Unknown}
+use Rattle.log_calls.specs.declared.vocabulary.Word.the-variants.{Report, Table, State, Write, Unknown}
 
--- `list`, `plant`, `check`, `part`, `fact`, `fresh`, `board`, `plan`, `send`, `clock`, `retire`, `report`, `table`, `state`; no bytes are the name of no call
+-- `list`, `plant`, `check`, `part`, `fact`, `fresh`, `board`, `plan`, `send`, `clock`, `retire`, `report`, `table`, `state`, `write`; no bytes are the name of no call
 abbrev pub nameOf : Word → List ℕ
 nameOf ListWord = 108 ∷ 105 ∷ 115 ∷ 116 ∷ []
 nameOf Plant = 112 ∷ 108 ∷ 97 ∷ 110 ∷ 116 ∷ []
@@ -25,6 +25,7 @@ nameOf Retire = 114 ∷ 101 ∷ 116 ∷ 105 ∷ 114 ∷ 101 ∷ []
 nameOf Report = 114 ∷ 101 ∷ 112 ∷ 111 ∷ 114 ∷ 116 ∷ []
 nameOf Table = 116 ∷ 97 ∷ 98 ∷ 108 ∷ 101 ∷ []
 nameOf State = 115 ∷ 116 ∷ 97 ∷ 116 ∷ 101 ∷ []
+nameOf Write = 119 ∷ 114 ∷ 105 ∷ 116 ∷ 101 ∷ []
 nameOf Unknown = []
 
 abbrev pub Says : List ℕ → Word → Type 0

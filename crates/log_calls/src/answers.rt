@@ -10,9 +10,12 @@ use base_rulings::number;
 use base_rulings::value;
 use log_boardtext::put_state;
 use log_boardtext::put_table;
+use log_text::find;
+use log_text::least;
 use log_text::put;
 use log_text::put_hex;
 use log_text::put_number;
+use log_writing::put_file;
 use part_boardwords::BOARD_WORDS;
 use read_plant::allocations;
 
@@ -27,6 +30,8 @@ pub enum Answer {
     Part(u32),
     // `= 0 N` and the rows of a report into a list of so many.
     Report(u32),
+    // `= 0 LENGTH HEX`: the plant file that the line writes.
+    File,
     // `table N` and the gaps.
     Table,
     // `state CLOCK JOBS`, the jobs and the lines.
@@ -60,6 +65,7 @@ pub fn put_answer(
         Answer::Ruling(ruling) => put_ruling(out, at, ruling),
         Answer::Part(action) => put_part(out, at, allocations(plant, action)),
         Answer::Report(room) => put_report(out, at, board, room),
+        Answer::File => put_written(out, at, line),
         Answer::Table => put_table(out, at, board),
         Answer::State => put_state(out, at, board),
         Answer::Wrong(fault) => put_fault(out, at, row, fault),
@@ -95,4 +101,10 @@ fn put_part(out: &mut [u8], at: usize, part: &[u8]) -> usize
     let mark = put(out, at, b"= 0 ");
     let end = put_hex(out, mark, part);
     put(out, end, b"\n")
+}
+
+// Puts the file that the words behind the line's first ask for.
+fn put_written(out: &mut [u8], at: usize, line: &[u8]) -> usize {
+    let from = least(find(line, b' ') + 1, line.len());
+    put_file(out, at, &line[from..])
 }

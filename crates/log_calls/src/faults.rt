@@ -15,6 +15,8 @@ pub enum Fault {
     BoardBytes,
     ManyRows,
     RowsWritten,
+    ManyActions,
+    FileSpilt,
     LongLine,
     CarriageReturn,
 }
@@ -35,7 +37,7 @@ fn put_why(out: &mut [u8], at: usize, fault: Fault) -> usize {
         Fault::UnknownWord => put(
             out,
             at,
-            b"the line begins with no known word: use list, plant, check, part, fact, fresh, board, plan, send, clock, retire, report, table or state",
+            b"the line begins with no known word: use list, plant, check, part, fact, fresh, board, plan, send, clock, retire, report, table, state or write",
         ),
         Fault::MissingWord => put(
             out,
@@ -75,6 +77,12 @@ fn put_why(out: &mut [u8], at: usize, fault: Fault) -> usize {
             out,
             at,
             b"the report wrote past its rows: the program is wrong, and its rows are not to be trusted",
+        ),
+        Fault::ManyActions => put(out, at, b"the actions are too many: use at most 200"),
+        Fault::FileSpilt => put(
+            out,
+            at,
+            b"the writer wrote past its file: the program is wrong, and its file is not to be trusted",
         ),
         Fault::LongLine => put(out, at, b"the line is too long: use at most 65535 bytes"),
         Fault::CarriageReturn => put(

@@ -29,6 +29,8 @@ use log_text::decode_hex;
 use log_text::find;
 use log_text::least;
 use log_text::read_number;
+use log_writing::Made;
+use log_writing::rule_write;
 use part_boardwords::BOARD_WORDS;
 use read_offer::rule_facts;
 use read_plant::check_plant;
@@ -124,6 +126,7 @@ pub fn answer(word: Word, argument: &[u8], plant: &[u8]) -> Answer {
         Word::Fact => fact_answer(argument, plant),
         Word::Table => Answer::Table,
         Word::State => Answer::State,
+        Word::Write => write_answer(argument),
         _ => Answer::Wrong(Fault::UnknownWord),
     }
 }
@@ -170,6 +173,20 @@ fn fact_answer(hex: &[u8], plant: &[u8]) -> Answer {
     };
     let end = least(n, offer.len());
     Answer::Ruling(rule_facts(plant, &offer[0..end]))
+}
+
+// A plant file written. It becomes no plant of the log: a line `plant` does that.
+fn write_answer(words: &[u8]) -> Answer {
+    match rule_write(words) {
+        Made::File(_) => Answer::File,
+        Made::Refused(ruling) => Answer::Ruling(ruling),
+        Made::Missing => Answer::Wrong(Fault::MissingWord),
+        Made::Extra => Answer::Wrong(Fault::ExtraWord),
+        Made::BadNumber => Answer::Wrong(Fault::BadNumber),
+        Made::ManyBytes => Answer::Wrong(Fault::ManyBytes),
+        Made::ManyActions => Answer::Wrong(Fault::ManyActions),
+        Made::Spilt => Answer::Wrong(Fault::FileSpilt),
+    }
 }
 
 // The fault of a word that is no hex. Bytes are none, and nobody asks for theirs.

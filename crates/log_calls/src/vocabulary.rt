@@ -17,6 +17,7 @@ pub enum Word {
     Report,
     Table,
     State,
+    Write,
     Unknown,
 }
 
@@ -65,11 +66,14 @@ pub fn word_of(s: &[u8]) -> Word
     if same(s, b"state") {
         return Word::State;
     }
+    if same(s, b"write") {
+        return Word::Write;
+    }
     Word::Unknown
 }
 
 // How many words follow the first, on a line with so many blanks. After an unknown word any number will do, so
-// that the fault that is named is the word.
+// that the fault that is named is the word; and how many a written plant has is told by its numbers.
 pub fn arguments(word: Word, blanks: usize) -> usize {
     match word {
         Word::Check => 0,
@@ -77,7 +81,15 @@ pub fn arguments(word: Word, blanks: usize) -> usize {
         Word::Table => 0,
         Word::State => 0,
         Word::Fresh => 2,
+        Word::Write => two_or_more(blanks),
         Word::Unknown => blanks,
         _ => 1,
     }
+}
+
+fn two_or_more(blanks: usize) -> usize {
+    if blanks < 2 {
+        return 2;
+    }
+    blanks
 }

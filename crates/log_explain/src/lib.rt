@@ -115,7 +115,11 @@ fn put_of_call(out: &mut [u8], at: usize, n: u32) -> usize {
             at,
             b"there is no job to retire, or the oldest is unsent, or its last point or an allocation ends after the clock",
         ),
-        22 => put(out, at, b"the list is shorter than the rows"),
+        22 => put(
+            out,
+            at,
+            b"the list is shorter than the rows, or the buffer than the file",
+        ),
         _ => put_unknown(out, at),
     }
 }

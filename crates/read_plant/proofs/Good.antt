@@ -1,5 +1,5 @@
 -- What holds of a good plant file, one that passes refusals 1 to 4. Assumes nothing.
---   Good, good      length, count, layout, and every record in its place and in range
+--   Good, good      length, mark, count, layout, and every record in its place and in range
 --   entry-within    the index entry of an action lies in the file
 --   start-is        and it says where the action's record starts
 --   part-..         the part that holds an action's allocations
@@ -29,6 +29,7 @@ use Rattle.read_plant.proofs.Records.{Placed, placed, Whole, whole}
 
 pub record Good (s : List ℕ) : Type 0 where
   pub long : 12 ≤ length s
+  pub mark : isMark s (length s - 4) ≡ true
   pub some : 1 ≤ trailerOf s .count
   pub few : trailerOf s .count ≤ 128
   pub layout : trailerOf s .index + 4 * trailerOf s .count + 12 ≡ length s
@@ -54,6 +55,7 @@ good s p =
     let all = first-all (recordRuling s) (t .count) in
     record {
       long = ltb-false _ _ (neither (ltb (length s) 12) _ (one .0) .0);
+      mark = not-false _ (neither (ltb (length s) 12) _ (one .0) .1);
       some = ltb-false _ _ (count .0);
       few = ltb-false _ _ (most .0);
       layout = eqb-true _ _ (not-false _ (most .1));

@@ -2,7 +2,7 @@
 --   some-bad-..     the allocations one after the other
 --   passes-header   a record whose header passes the index passes it
 --   Placed          what holds of a record that is in its place (not refusal 3)
---   last-bound, range-rest   which test decides where all before it pass
+--   range-rest      which test decides where all before it pass
 --   record-ends     reading such a record in range finds its end;  Whole, whole: what a record that was read is
 --   start-none, ruling-is, next-start   the first record's start; one record more: its ruling, and where the next has to start
 use Prim.Native.Nat.{ℕ, zero, suc, _+_, _-_, _*_, _≤_, _<_}
@@ -12,7 +12,8 @@ use mathlib.Core.Path.{_≡_, refl, sym, ap, subst, _∙_}
 use mathlib.Core.List.{List}
 use mathlib.Core.Bool.{Bool, true, false, cond, not, _&&_, _||_}
 use lib.Dec.{eqb, ltb}
-use borrow.Author.Tests.{lt-ltb, le-ltb, eq-eqb, eqb-true, eqb-false, ltb-false, not-false}
+use lib.ListN.{getD}
+use borrow.Author.Tests.{lt-ltb, eq-eqb, eqb-true, eqb-false, ltb-false, not-false}
 use Rattle.base_words.specs.Word.{word}
 use Rattle.base_masks.specs.Mask.{share}
 use Rattle.base_rulings.specs.declared.Record.{Record}
@@ -55,13 +56,6 @@ some-bad-here s at k (suc n) l h = go (eqb k n) refl (some-bad-here s at k n)
 pub some-bad-all : (s : List ℕ) (at k n : ℕ) → someBadAllocation s at k ≡ false → k ≡ n → false ≡ someBadAllocation s at n
 some-bad-all s at k n e q = rw (← q, e)
 
--- the length's upper bound decides where all else is in range
-pub last-bound :
-    (s : List ℕ) (at r o n : ℕ) → r ≡ word s at → o ≡ word s (at + 4) → n ≡ word s (at + 8) → r ≤ 15 → o ≤ 1000000 → 1 ≤ n
-    → ltb 1000000 n ≡ badAllocation s at
-unfolding badAllocation
-last-bound s at r o n er eo en br bo bn = simp (← er, ← eo, ← en) (last-of-or _ _ _ _ (le-ltb _ _ br) (le-ltb _ _ bo) (le-ltb _ _ bn))
-
 -- ---- the place of a record
 
 pub passes-header :
@@ -75,8 +69,11 @@ pub record Placed (s : List ℕ) (t : Trailer) (a at : ℕ) : Type 0 where
   pub entry : word s (t .index + 4 * a) ≡ at
   -- it does not pass the index
   pub within : recordEnd s at ≤ t .index
-  -- it has at most 4 allocations
+  -- it has at most 4 allocations, and its spare bytes are zero
   pub few : allocationCount s at ≤ 4
+  pub spare : (getD s (at + 25) 0 ≡ 0) × (getD s (at + 26) 0 ≡ 0) × (getD s (at + 27) 0 ≡ 0)
+  -- the last one ends where the index starts
+  pub ends : a + 1 ≡ t .count → t .index ≤ recordEnd s at
 
 pub placed : (s : List ℕ) (t : Trailer) (a at : ℕ) → badRecord s t a at ≡ false → Placed s t a at
 unfolding badRecord badHead
@@ -84,10 +81,16 @@ placed s t a at e =
     let entry = neither (not (eqb (word s (t .index + 4 * a)) at)) _ e in
     let within = neither (ltb (t .index) (recordEnd s at)) _ (entry .1) in
     let head = neither (badHead s at) (eqb (a + 1) (t .count) && ltb (recordEnd s at) (t .index)) (within .1) in
+    let few = neither (ltb 4 (allocationCount s at)) _ (head .0) in
+    let first = neither (not (eqb (getD s (at + 25) 0) 0)) _ (few .1) in
+    let second = neither (not (eqb (getD s (at + 26) 0) 0)) (not (eqb (getD s (at + 27) 0) 0)) (first .1) in
     record {
       entry = eqb-true _ _ (not-false _ (entry .0));
       within = ltb-false _ _ (within .0);
-      few = ltb-false _ _ (neither (ltb 4 (allocationCount s at)) _ (head .0) .0);
+      few = ltb-false _ _ (few .0);
+      spare = (eqb-true _ _ (not-false _ (first .0)), eqb-true _ _ (not-false _ (second .0)), eqb-true _ _ (not-false _ (second .1)));
+      ends = λ last.
+          ltb-false (recordEnd s at) (t .index) (rw (eq-eqb (a + 1) (t .count) last) at (head .1));
     }
 
 -- ---- its range: the allocations decide where masks and durations are right

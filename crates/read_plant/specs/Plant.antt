@@ -7,7 +7,7 @@
 --   recordEnd s at      where the record that starts at `at` ends
 --   recordStart s a     where the record of action a has to start: where the record before ended
 --   badRecord s t a at  refusal 3 of action a, whose record has to start at `at`;  badHead s at: its count and spare bytes
---   badAction s at      refusal 4 of the action whose record starts at `at`, by badDuration, badAllocation and someBadAllocation
+--   badAction s at      refusal 4 of the action whose record starts at `at`, by badDuration, outOfRange, badAllocation and someBadAllocation
 --   recordAt s t a at   what reading that record finds: where it ends, or the cause;  recordRuling s a: the ruling on action a
 --   plantRuling s       the first of refusals 1 to 4
 --   allocationsOf s a   the part of a good file that holds the allocations of action a
@@ -111,12 +111,12 @@ badRecord s t a at =
 unfoldable pub badDuration : ℕ → ℕ → Bool
 badDuration short long = ltb short 1 || (ltb long short || ltb 1000000 long)
 
+-- "resource (0 to 15), offset (0 to 1,000,000), length (1 to 1,000,000)" does not hold
+abbrev pub outOfRange : ℕ → ℕ → ℕ → Bool
+outOfRange r o n = ltb 15 r || (ltb 1000000 o || (ltb n 1 || ltb 1000000 n))
+
 unfoldable pub badAllocation : List ℕ → ℕ → Bool
-badAllocation s at =
-    ltb 15 (resource s at)
-    || (ltb 1000000 (offset s at)
-    || (ltb (useLength s at) 1
-    || ltb 1000000 (useLength s at)))
+badAllocation s at = outOfRange (resource s at) (offset s at) (useLength s at)
 
 -- one of the first n allocations of the record is out of range
 unfoldable pub someBadAllocation : List ℕ → ℕ → ℕ → Bool

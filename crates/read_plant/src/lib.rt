@@ -10,8 +10,8 @@ use base_words::u32_at;
 ghost use mathlib.Core.Path.{_≡_};
 ghost use Prim.Native.Nat.{_+_, _*_, _≤_, _<_, _^_};
 ghost use lib.ListN.{length};
-ghost use Rattle.read_plant.specs.Plant.{isMark, trailerOf, badLayout, badHead, badRecord, badDuration, badAllocation, someBadAllocation, badAction};
-ghost use Rattle.read_plant.specs.Plant.{recordAt, recordStart, recordRuling, plantRuling, allocationsOf, allocationCount};
+ghost use Rattle.read_plant.specs.Plant.{isMark, trailerOf, badLayout, badHead, badRecord, badDuration, outOfRange, badAllocation};
+ghost use Rattle.read_plant.specs.Plant.{someBadAllocation, badAction, recordAt, recordStart, recordRuling, plantRuling, allocationsOf, allocationCount};
 ghost use Rattle.base_rulings.specs.Order.{firstRefusal};
 
 // The last four bytes of a plant file: hex 50 4C 4E 54.
@@ -106,7 +106,8 @@ fn is_bad_record(s: &[u8], t: Trailer, action: u32, at: usize) -> bool
     false
 }
 
-fn is_bad_duration(short: u32, long: u32) -> bool
+// "1 ≤ shortest ≤ longest ≤ 1,000,000" does not hold.
+pub fn is_bad_duration(short: u32, long: u32) -> bool
     ensures { λ r. ⌜ r ≡ badDuration short long ⌝ }
 {
     if short < 1 {
@@ -118,21 +119,27 @@ fn is_bad_duration(short: u32, long: u32) -> bool
     1000000 < long
 }
 
-fn is_bad_allocation(s: &[u8], at: usize) -> bool
-    requires { ⌜ at + 12 ≤ length (now s) ⌝ }
-    ensures { λ r. ⌜ r ≡ badAllocation (now (s .entry)) at ⌝ }
+// Whether one of an allocation's numbers is out of range.
+pub fn is_out_of_range(resource: u32, offset: u32, len: u32) -> bool
+    ensures { λ r. ⌜ r ≡ outOfRange resource offset len ⌝ }
 {
-    if 15 < u32_at(s, at) {
+    if 15 < resource {
         return true;
     }
-    if 1000000 < u32_at(s, at + 4) {
+    if 1000000 < offset {
         return true;
     }
-    let len = u32_at(s, at + 8);
     if len < 1 {
         return true;
     }
     1000000 < len
+}
+
+fn is_bad_allocation(s: &[u8], at: usize) -> bool
+    requires { ⌜ at + 12 ≤ length (now s) ⌝ }
+    ensures { λ r. ⌜ r ≡ badAllocation (now (s .entry)) at ⌝ }
+{
+    is_out_of_range(u32_at(s, at), u32_at(s, at + 4), u32_at(s, at + 8))
 }
 
 // Whether one of the n allocations of the record at `at` is out of range.

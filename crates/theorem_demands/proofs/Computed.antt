@@ -5,6 +5,7 @@
 --   computed, further-computed    both tables compute;  shownOpen: the definitions to unfold for it
 --   drafts-computed               the table of limits
 --   plants-computed, parts-computed, offers-computed, spelled-computed   the tables of what is read from bytes
+--   written-computed, held-computed   the tables of what is written
 use mathlib.Core.Path.{_≡_, refl}
 use mathlib.Core.Bool.{true}
 use mathlib.Core.List.{List, [], _∷_}
@@ -21,7 +22,8 @@ use Rattle.theorem_demands.specs.Shown.{isAccepted, kindOf, sameRuling, 
 use Rattle.theorem_demands.specs.ProvingTable.{plant, jobJ, table}
 use Rattle.theorem_demands.specs.FurtherTable.{furtherTable, AllDraft, draftTable}
 use Rattle.theorem_demands.specs.ReadingTable.{AllPlants, plantTable, AllParts, partTable, AllOffers, offerTable, AllSpelled, spelledTable}
-use Rattle.theorem_demands.proofs.Computing.{computing}
+use Rattle.theorem_demands.specs.WritingTable.{AllWritten, writeTable, AllHeld, heldTable}
+use Rattle.theorem_demands.proofs.Computing.{computing, writingOpen}
 
 -- the bytes are as many as document 01 says
 pub plant-length : length plant ≡ 120
@@ -112,3 +114,20 @@ offers-computed =
 pub spelled-computed : AllSpelled spelledTable
 unfolding computing trailingZeros
 spelled-computed = both refl tt
+
+-- plant files written, and the actions that one holds
+pub written-computed : AllWritten writeTable
+unfolding writingOpen
+written-computed =
+    both (refl, refl, refl) (both (refl, refl, refl) (both (refl, refl, refl) (both (refl, refl, refl) (
+    both (refl, refl, refl) (both (refl, refl, refl) (both (refl, refl, refl) (both (refl, refl, refl) (
+    both (refl, refl, refl) (both (refl, refl, refl) (both (refl, refl, refl) (both (refl, refl, refl) (
+    both (refl, refl, refl) (both (refl, refl, refl) (both (refl, refl, refl) (both (refl, refl, refl) (
+    both (refl, refl, refl) (both (refl, refl, refl) (both (refl, refl, refl) (both (refl, refl, refl) (
+    both (refl, refl, refl) (both (refl, refl, refl) (both (refl, refl, refl) (both (refl, refl, refl) (
+    both (refl, refl, refl) (both (refl, refl, refl) (both (refl, refl, refl) (both (refl, refl, refl) (
+    both (refl, refl, refl) (both (refl, refl, refl) (both (refl, refl, refl) tt))))))))))))))))))))))))))))))
+
+pub held-computed : AllHeld heldTable
+unfolding writingOpen
+held-computed = both refl (both refl (both refl tt))

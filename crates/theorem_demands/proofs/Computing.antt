@@ -2,7 +2,7 @@
 -- the abstract board, and closes by `refl`. Each of these names is an element of the unit type and says nothing; to open it is to open
 -- what its `unfolding` line names.
 --   recordOpen, plantOpen, factsOpen, offerOpen   a record; the plant file; the chain worked back; the offer and the fact check
---   readingOpen     the reading of a plan call's bytes
+--   readingOpen     the reading of a plan call's bytes;  writingOpen: a plant file written
 --   placeOpen, planOpen, sendOpen, retireOpen     the plain machine: placing, plan, send and clock, retire
 --   tableOpen       tables
 --   boardOpen       the abstract board, from the fresh one on;  tidyOpen: its tidy runs
@@ -14,6 +14,8 @@ use Rattle.read_facts.specs.Regression.{undoes, regressed, backOver, lacking, a
 use Rattle.read_plant.specs.Plant.{isMark, trailerOf, badLayout, recordStart, badHead, badRecord, badDuration, badAllocation, someBadAllocation, badAction}
 use Rattle.read_plant.specs.Plant.{recordAt, recordRuling, plantRuling}
 use Rattle.read_offer.specs.Offer.{knownOf, goalOf, stepStart, stepAt, stepRuling, offerRuling, actionOf, chainFrom, consistencyRuling, chainRuling, factCheck}
+use Rattle.write_plant.specs.Written.{actionRuling, actionsRuling}
+use Rattle.write_plant.specs.Lent.{writeRuling, writtenLength, writtenInto}
 use Rattle.spec_plain.specs.Plain.{total, liveCount, notBefore, notAfter, overBy, inOrder, durations, orElse, afterNewest, batchRules, full, joining}
 use Rattle.spec_plain.specs.Plain.{drafted, inserted, ruleBefore, ruleAfter, usedFrom, placed, unsentAt, range, unsentPoints, sentUpTo, sentState, freeze}
 use Rattle.spec_plain.specs.Plain.{clockOk, clockState, starts, goes, newNumber, staying, without, endsBy, allEndBy, leavingFrom, leaving}
@@ -44,6 +46,10 @@ offerOpen = tt
 unfoldable pub readingOpen : Unit {0}
 unfolding plantOpen factsOpen offerOpen recordOf stepOf allocationOf stepsFrom allocationsOfStep allocationsFrom offerOf past readingOf
 readingOpen = tt
+
+unfoldable pub writingOpen : Unit {0}
+unfolding share badDuration firstRefusal trailerOf recordStart word build actionRuling actionsRuling writeRuling writtenLength writtenInto
+writingOpen = tt
 
 unfoldable pub placeOpen : Unit {0}
 unfolding inOrder inserted ruleBefore ruleAfter usedFrom placed

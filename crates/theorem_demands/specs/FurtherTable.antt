@@ -1,6 +1,5 @@
 -- Cases of our own in the form of the proving table, for what document 01's cases do not show.
 --   action t n us       the record of an action without facts, of t ms and with the n allocations us
---   plantOf rs          the plant file of the records rs;  joined: one behind the other;  startsFrom: where they start
 --   offer b n ws        an offer without facts in batch b, of n steps that ws spells: an action and its places for each
 --   twice, long         plants of one action each
 --   trailing, elastic   plants of two actions;  trails p q: a plan of both of the first, with the places of its uses;  stretches n ws: a plan of the second
@@ -19,52 +18,40 @@ use lib.ListN.{length}
 use Rattle.base_rulings.specs.declared.Ruling.{Ruling}
 use Rattle.base_rulings.specs.declared.Ruling.the-variants.{Accepted, Refused}
 use Rattle.base_rulings.specs.Answer.{refuse, refused}
+use Rattle.base_words.specs.Word.{u32s}
+use Rattle.write_plant.specs.Written.{fileOf}
 use Rattle.spec_plain.specs.declared.Allocation.{Allocation}
 use Rattle.spec_plain.specs.Plain.{State, Offer, Draft, withJobs, withLines, newJob, drafted}
 use Rattle.spec_rulebook.specs.Book.{Call, plan, send, clock, retire, fresh}
 use Rattle.theorem_demands.specs.Cases.{earliest, latest, Case}
-use Rattle.theorem_demands.specs.ProvingTable.{u32s, plant, jobJ, offerM, settingsFrom, usual, J}
+use Rattle.theorem_demands.specs.ProvingTable.{plant, jobJ, offerM, settingsFrom, usual, J}
 
 -- ---- plants and offers
 
 abbrev pub action : ℕ → ℕ → List ℕ → List ℕ
 action t n us = u32s (0 ∷ 0 ∷ 0 ∷ 0 ∷ t ∷ t ∷ []) ++ (n ∷ 0 ∷ 0 ∷ 0 ∷ []) ++ u32s us
 
-abbrev pub mark : List ℕ
-mark = 0x50 ∷ 0x4C ∷ 0x4E ∷ 0x54 ∷ []
-
-abbrev pub joined : List (List ℕ) → List ℕ
-joined [] = []
-joined (r ∷ rs) = r ++ joined rs
-
-abbrev startsFrom : ℕ → List (List ℕ) → List ℕ
-startsFrom at [] = []
-startsFrom at (r ∷ rs) = at ∷ startsFrom (at + length r) rs
-
-abbrev pub plantOf : List (List ℕ) → List ℕ
-plantOf rs = joined rs ++ u32s (startsFrom 0 rs) ++ u32s (length (joined rs) ∷ length rs ∷ []) ++ mark
-
 abbrev pub offer : ℕ → ℕ → List ℕ → List ℕ
 offer b n ws = u32s (b ∷ 0 ∷ 0 ∷ 0 ∷ 0 ∷ n ∷ []) ++ u32s ws
 
 -- 40 ms, with two uses of resource 0: 0 to 10 and 20 to 30
 abbrev pub twice : List ℕ
-twice = plantOf (action 40 2 (0 ∷ 0 ∷ 10 ∷ 0 ∷ 20 ∷ 10 ∷ []) ∷ [])
+twice = fileOf (action 40 2 (0 ∷ 0 ∷ 10 ∷ 0 ∷ 20 ∷ 10 ∷ []) ∷ [])
 
 -- 1 ms, with a use of resource 0 that outlasts it: 0 to 30
 abbrev pub long : List ℕ
-long = plantOf (action 1 1 (0 ∷ 0 ∷ 30 ∷ []) ∷ [])
+long = fileOf (action 1 1 (0 ∷ 0 ∷ 30 ∷ []) ∷ [])
 
 -- 1 ms, with a use of resource 0 from 3 to 7, and one of resource 15 from 2 to 9
 abbrev pub crossing : List ℕ
-crossing = plantOf (action 1 2 (0 ∷ 3 ∷ 4 ∷ 15 ∷ 2 ∷ 7 ∷ []) ∷ [])
+crossing = fileOf (action 1 2 (0 ∷ 3 ∷ 4 ∷ 15 ∷ 2 ∷ 7 ∷ []) ∷ [])
 
 abbrev pub crosses : ℕ → ℕ → Call
 crosses p q = plan crossing (offer 0 1 (0 ∷ p ∷ q ∷ []))
 
 -- 10 ms that use nothing, and then 1 ms with two uses of resource 3 that outlast it: 0 to 10 and 20 to 30
 abbrev pub trailing : List ℕ
-trailing = plantOf (action 10 0 [] ∷ action 1 2 (3 ∷ 0 ∷ 10 ∷ 3 ∷ 20 ∷ 10 ∷ []) ∷ [])
+trailing = fileOf (action 10 0 [] ∷ action 1 2 (3 ∷ 0 ∷ 10 ∷ 3 ∷ 20 ∷ 10 ∷ []) ∷ [])
 
 abbrev pub trails : ℕ → ℕ → Call
 trails p q = plan trailing (offer 0 2 (0 ∷ 1 ∷ p ∷ q ∷ []))
@@ -72,7 +59,7 @@ trails p q = plan trailing (offer 0 2 (0 ∷ 1 ∷ p ∷ q ∷ []))
 -- 10 to 20 ms: 0 uses nothing, 1 uses resource 0 from 0 to 30
 abbrev pub elastic : List ℕ
 elastic =
-    plantOf
+    fileOf
     ((u32s (0 ∷ 0 ∷ 0 ∷ 0 ∷ 10 ∷ 20 ∷ []) ++ (0 ∷ 0 ∷ 0 ∷ 0 ∷ []))
     ∷ (u32s (0 ∷ 0 ∷ 0 ∷ 0 ∷ 10 ∷ 20 ∷ []) ++ (1 ∷ 0 ∷ 0 ∷ 0 ∷ []) ++ u32s (0 ∷ 0 ∷ 30 ∷ []))
     ∷ [])
@@ -81,7 +68,7 @@ abbrev pub stretches : ℕ → List ℕ → Call
 stretches n ws = plan elastic (offer 0 n ws)
 
 abbrev pub pair : List ℕ
-pair = plantOf (action 10 0 [] ∷ action 5 1 (1 ∷ 0 ∷ 5 ∷ []) ∷ [])
+pair = fileOf (action 10 0 [] ∷ action 5 1 (1 ∷ 0 ∷ 5 ∷ []) ∷ [])
 
 abbrev pub turns : ℕ → Call
 turns p = plan pair (offer 0 1 (1 ∷ p ∷ []))

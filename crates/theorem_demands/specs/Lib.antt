@@ -6,4 +6,5 @@ pub mod Cases
 pub mod ProvingTable
 pub mod FurtherTable
 pub mod ReadingTable
+pub mod WritingTable
 pub mod Shown

@@ -6,21 +6,14 @@
 --   table         document 01's cases; cases of our own, for what those do not show: FurtherTable
 -- Point 0 is the origin; where the first job is J, its points are 1, 2, 3, and the second job's start is 4.
 use mathlib.Core.List.{List, [], _∷_, _++_}
-use Prim.Native.Nat.{ℕ, _/_, _%_}
+use Prim.Native.Nat.{ℕ}
+use Rattle.base_words.specs.Word.{u32s}
 use Rattle.base_rulings.specs.declared.Ruling.{Ruling}
 use Rattle.base_rulings.specs.declared.Ruling.the-variants.{Accepted}
 use Rattle.base_rulings.specs.Answer.{refuse, refused}
 use Rattle.spec_plain.specs.declared.Settings.{Settings}
 use Rattle.spec_rulebook.specs.Book.{Call, plan, send, clock, retire}
 use Rattle.theorem_demands.specs.Cases.{Expect, earliest, latest, runs, fails, same, Case}
-
--- a u32, low byte first, and several of them
-abbrev pub u32 : ℕ → List ℕ
-u32 n = n % 256 ∷ n / 256 % 256 ∷ n / 65536 % 256 ∷ n / 16777216 % 256 ∷ []
-
-abbrev pub u32s : List ℕ → List ℕ
-u32s [] = []
-u32s (n ∷ ns) = u32 n ++ u32s ns
 
 -- facts as masks
 abbrev fact0 : ℕ

@@ -20,8 +20,10 @@ use Rattle.spec_plain.specs.declared.Allocation.{Allocation}
 use Rattle.spec_plain.specs.Plain.{Offer}
 use Rattle.spec_rulebook.specs.Reading.{Reading, bad, good, readingOf}
 use Rattle.spec_rulebook.specs.Book.{fresh}
-use Rattle.theorem_demands.specs.ProvingTable.{u32, u32s, plant, jobJ, settingsFrom}
-use Rattle.theorem_demands.specs.FurtherTable.{times, mark, joined, action, plantOf, offer}
+use Rattle.base_words.specs.Word.{u32, u32s}
+use Rattle.write_plant.specs.Written.{joined, mark, fileOf}
+use Rattle.theorem_demands.specs.ProvingTable.{plant, jobJ, settingsFrom}
+use Rattle.theorem_demands.specs.FurtherTable.{times, action, offer}
 
 abbrev pub withByte : ℕ → ℕ → List ℕ → List ℕ
 withByte at b s = set s at b
@@ -87,8 +89,8 @@ records =
     ∷ ruled (withByte 92 1 plant) (refused 3 2)
     ∷ ruled (take 95 plant ++ u32s (0 ∷ 40 ∷ 68 ∷ 95 ∷ 3 ∷ []) ++ mark) (refused 3 2)
     -- n is 4 at most
-    ∷ ruled (plantOf (uses 4 ∷ [])) Accepted
-    ∷ ruled (plantOf (uses 5 ∷ [])) (refused 3 0)
+    ∷ ruled (fileOf (uses 4 ∷ [])) Accepted
+    ∷ ruled (fileOf (uses 5 ∷ [])) (refused 3 0)
     -- three spare bytes, and each is 0
     ∷ ruled (withByte 65 1 plant) (refused 3 1)
     ∷ ruled (withByte 66 1 plant) (refused 3 1)
@@ -118,15 +120,15 @@ actions =
     ∷ ruled (withWord 36 1000000 plant) Accepted
     ∷ ruled (withWord 36 1000001 plant) (refused 4 0)
     -- each allocation is looked at
-    ∷ ruled (withWord 28 16 (plantOf (uses 4 ∷ []))) (refused 4 0)
-    ∷ ruled (withWord 40 16 (plantOf (uses 4 ∷ []))) (refused 4 0)
-    ∷ ruled (withWord 56 1000001 (plantOf (uses 4 ∷ []))) (refused 4 0)
-    ∷ ruled (withWord 72 0 (plantOf (uses 4 ∷ []))) (refused 4 0)
+    ∷ ruled (withWord 28 16 (fileOf (uses 4 ∷ []))) (refused 4 0)
+    ∷ ruled (withWord 40 16 (fileOf (uses 4 ∷ []))) (refused 4 0)
+    ∷ ruled (withWord 56 1000001 (fileOf (uses 4 ∷ []))) (refused 4 0)
+    ∷ ruled (withWord 72 0 (fileOf (uses 4 ∷ []))) (refused 4 0)
     -- a fact twice in the needs, twice in the makes; but it may be needed, either way, and made, either way
     ∷ ruled (withWord 4 1 plant) (refused 4 0)
     ∷ ruled (withWord 12 2 plant) (refused 4 0)
-    ∷ ruled (plantOf (changing 2147483648 2147483648 0 0 ∷ [])) (refused 4 0)
-    ∷ ruled (plantOf (changing 3 12 5 10 ∷ [])) Accepted
+    ∷ ruled (fileOf (changing 2147483648 2147483648 0 0 ∷ [])) (refused 4 0)
+    ∷ ruled (fileOf (changing 3 12 5 10 ∷ [])) Accepted
     -- action by action: A0's 4 comes before A1's 3, also where that is of its index entry or its end; of one action 3 comes before 4
     ∷ ruled (withWord 16 0 (withByte 65 1 plant)) (refused 4 0)
     ∷ ruled (withWord 16 0 (withWord 100 39 plant)) (refused 4 0)
@@ -151,7 +153,7 @@ AllParts (c ∷ cs) = (allocationsOf (c .bytes) (c .number) ≡ c .part) × AllP
 
 -- two actions: the first with one allocation, the second with three
 abbrev mixed : List ℕ
-mixed = plantOf (action 10 1 (1 ∷ 2 ∷ 3 ∷ []) ∷ action 30 3 (4 ∷ 5 ∷ 6 ∷ 7 ∷ 8 ∷ 9 ∷ 10 ∷ 11 ∷ 12 ∷ []) ∷ [])
+mixed = fileOf (action 10 1 (1 ∷ 2 ∷ 3 ∷ []) ∷ action 30 3 (4 ∷ 5 ∷ 6 ∷ 7 ∷ 8 ∷ 9 ∷ 10 ∷ 11 ∷ 12 ∷ []) ∷ [])
 
 abbrev pub partTable : List PartCase
 partTable =
@@ -159,7 +161,7 @@ partTable =
     record { bytes = mixed; number = 0; part = u32s (1 ∷ 2 ∷ 3 ∷ []) }
     ∷ record { bytes = mixed; number = 1; part = u32s (4 ∷ 5 ∷ 6 ∷ 7 ∷ 8 ∷ 9 ∷ 10 ∷ 11 ∷ 12 ∷ []) }
     -- an action that the file lacks, though there are bytes where it would stand; and a bad file, whichever of its actions is bad
-    ∷ record { bytes = plantOf (times 7 (action 1 0 [])); number = 7; part = [] }
+    ∷ record { bytes = fileOf (times 7 (action 1 0 [])); number = 7; part = [] }
     ∷ record { bytes = withWord 16 0 mixed; number = 1; part = [] }
     ∷ record { bytes = withWord 56 0 mixed; number = 0; part = [] }
     ∷ []
@@ -196,8 +198,8 @@ layouts =
     -- 7: under 24 bytes; 1 to 8 steps
     ∷ checked plant (take 23 (jobJ 0 0)) (refuse 7)
     ∷ checked plant (offer 0 0 []) (refuse 7)
-    ∷ checked (plantOf (action 10 0 [] ∷ [])) (offer 0 8 (times 8 0)) Accepted
-    ∷ checked (plantOf (action 10 0 [] ∷ [])) (offer 0 9 (times 9 0)) (refuse 7)
+    ∷ checked (fileOf (action 10 0 [] ∷ [])) (offer 0 8 (times 8 0)) Accepted
+    ∷ checked (fileOf (action 10 0 [] ∷ [])) (offer 0 9 (times 9 0)) (refuse 7)
     ∷ checked plant (withWord 20 257 (jobJ 0 0)) (refuse 7)
     -- 8: no step, an action number cut off, a place cut off, in step 1 too
     ∷ checked plant (take 24 (jobJ 0 0)) (refused 8 0)
@@ -228,7 +230,7 @@ wanting kt kf gt gf chain = u32s (0 ∷ kt ∷ kf ∷ gt ∷ gf ∷ length chain
 -- four actions: 0 needs fact 0 true and 1 false, and makes 2 true and 3 false; 1 needs 2 true and 3 false, and makes 1 true and 0 false;
 -- 2 needs and makes nothing; 3 needs 0 true and 1 false, and makes them so
 abbrev changes : List ℕ
-changes = plantOf (changing 1 2 4 8 ∷ changing 4 8 2 1 ∷ changing 0 0 0 0 ∷ changing 1 2 1 2 ∷ [])
+changes = fileOf (changing 1 2 4 8 ∷ changing 4 8 2 1 ∷ changing 0 0 0 0 ∷ changing 1 2 1 2 ∷ [])
 
 abbrev pub chains : List OfferCase
 chains =

@@ -10,8 +10,10 @@ mod tally;
 use crate::facts::{fact_check, fact_check_forward};
 use crate::kind::Kind;
 use crate::log::{self, Item};
+use crate::plant::Plant;
 use crate::replay::{Answer, Session};
 use crate::ruling::Ruling;
+use crate::write::actions_in;
 use answers::{first_difference, Answers};
 use reach::Reach;
 use sights::Sight;
@@ -61,6 +63,7 @@ pub fn compare(log: impl BufRead, answers: impl BufRead) -> io::Result<Compariso
             continue;
         };
         comparison.count(&item, &answer);
+        comparison.compare_read_back(number, &item, &answer);
         let accepted = matches!(answer, Answer::Ruling(Ruling::Accepted));
         if let Answer::List(_) = answer {
             list_line = number;
@@ -100,7 +103,7 @@ impl Comparison {
             self.calls.entry(item.word()).or_default().count(*ruling);
             self.count_retired(item, *ruling);
         }
-        if let Answer::Rows(_) = answer {
+        if let Answer::Rows(_) | Answer::Written(_) = answer {
             let tally = self.calls.entry(item.word()).or_default();
             tally.count(Ruling::Accepted);
         }
@@ -150,6 +153,19 @@ impl Comparison {
 
     fn seen(&self, sight: Sight) -> usize {
         self.sights.get(&sight).copied().unwrap_or(0)
+    }
+
+    /// Holds what was written against the reader: it must read the same actions.
+    fn compare_read_back(&mut self, number: usize, item: &Item, answer: &Answer) {
+        let (Item::Write(_, actions), Answer::Written(file)) = (item, answer) else {
+            return;
+        };
+        let read = Plant::read(file).map(|plant| actions_in(&plant));
+        if read.as_ref() != Ok(actions) {
+            self.differ(format!(
+                "line {number}: what was written is read as {read:?}"
+            ));
+        }
     }
 
     fn compare_forward(&mut self, number: usize, plant: &[u8], offer: &[u8]) {

@@ -4,14 +4,15 @@
 pub mod draft;
 
 mod boards;
-mod damage;
+pub(crate) mod damage;
 mod invent;
 mod offers;
 mod plants;
 mod random;
 pub mod rng;
 mod sweeps;
-mod world;
+pub(crate) mod world;
+mod writes;
 
 use crate::kind::Kind;
 use crate::log::Item;
@@ -25,7 +26,7 @@ struct List(Vec<Item>);
 type Scenario = fn(&mut Rng, &mut List);
 
 /// The lists that come first in every log.
-const SYSTEMATIC: [(&str, Scenario); 13] = [
+const SYSTEMATIC: [(&str, Scenario); 20] = [
     ("lengths", plants::lengths),
     ("counts", plants::counts),
     ("wraps", plants::wraps),
@@ -39,6 +40,13 @@ const SYSTEMATIC: [(&str, Scenario); 13] = [
     ("clashes", offers::clashes),
     ("chains", offers::chains),
     ("sweeps", sweeps::sweeps),
+    ("write-counts", writes::counts),
+    ("write-rooms", writes::rooms),
+    ("write-ns", writes::allocation_counts),
+    ("write-durations", writes::durations),
+    ("write-allocations", writes::allocations),
+    ("write-masks", writes::masks),
+    ("write-orders", writes::orders),
 ];
 
 /// A list's name and its items.
@@ -87,7 +95,9 @@ pub fn generate(seed: u64, calls: u64, kind: Kind, out: &mut impl Write) -> io::
 }
 
 impl List {
+    /// The plant from now on. A good file is written from its actions first.
     fn plant(&mut self, file: Vec<u8>) {
+        self.0.extend(writes::written_back(&file));
         self.0.push(Item::Plant(file));
     }
 
@@ -120,6 +130,7 @@ mod tests {
     use crate::log::{parse, MOST_BYTES};
     use crate::replay::Session;
     use crate::ruling::Ruling;
+    use crate::write::Fields;
     use world::World;
 
     const KINDS: [Kind; 3] = [Kind::Read, Kind::Board, Kind::Retire];
@@ -182,6 +193,51 @@ mod tests {
         let log = log(3, 20_000, Kind::Board);
         let mut lists = log.split("\nlist ").skip(1);
         assert!(lists.all(|list| list.trim_end().ends_with("\ntable\nstate")));
+    }
+
+    #[test]
+    fn an_offer_of_one_action_alone_passes() {
+        let mut rng = Rng::new(9);
+        let world = World::grow(&mut rng, 128, u32::MAX);
+        let file = draft::plant_file(&world.actions);
+        for (number, action) in (0..).zip(&world.actions) {
+            let offer = draft::OfferDraft::alone(number, &Fields::from(action));
+            assert_eq!(fact_check(&file, &offer.bytes()), Ruling::Accepted);
+        }
+    }
+
+    /// What a writer is likeliest to get wrong, with its answer, is in every log of this kind.
+    #[test]
+    fn a_log_has_the_likely_slips_of_a_writer() {
+        let log = log(8, 40_000, Kind::Read);
+        let [a0, a1, a2] = ["1 0 2 1 10 20 1 0 0 10", "2 0 4 2 5 5", "8 0 0 0 1 1 0"];
+        let zeros = "0 0 0 0 0 0 0 0 0 0 0 0";
+        let slips = [
+            (format!("write 0 2 {a0} {a1} 256 {zeros}"), "= 3 1"),
+            (format!("write 119 3 {a0} 2 2 4 2 5 5 0 {a2}"), "= 4 1"),
+            (format!("write 119 3 {a0} {a1} 0 {a2}"), "= 22"),
+        ];
+        let mut session: Session = Session::default();
+        for (line, answer) in slips {
+            assert!(log.lines().any(|other| other == line), "{line}");
+            let item = parse(&line).unwrap().unwrap();
+            let given = session.answer(&item).map(|given| given.to_string());
+            assert_eq!(given.as_deref(), Some(answer), "{line}");
+        }
+        // 4 of an action comes before 3 of the next.
+        let before = log.lines().filter_map(|line| parse(line).unwrap());
+        let is_slip = |item: &Item| match item {
+            Item::Write(_, actions) => {
+                matches!(&actions[..], [a, b, ..] if a.shortest == 0 && a.n <= 4 && b.n == 5)
+            }
+            _ => false,
+        };
+        let slips: Vec<Item> = before.filter(is_slip).collect();
+        assert!(!slips.is_empty());
+        for slip in slips {
+            let given = session.answer(&slip).map(|given| given.to_string());
+            assert_eq!(given.as_deref(), Some("= 4 0"));
+        }
     }
 
     #[test]

@@ -5,7 +5,7 @@ use std::str::FromStr;
 
 #[derive(Clone, Copy, Debug, PartialEq, Eq)]
 pub enum Kind {
-    /// Plant files, offers and the fact check.
+    /// Plant files, read and written, offers and the fact check.
     Read,
     /// Boards, without retire.
     Board,

@@ -1,13 +1,14 @@
-//! A second implementation of document 01, written from that document and the call log format
-//! alone. It shares no code with the product, so that a slip in one shows as a difference.
+//! A second implementation of documents 01 and 02, as far as 02 has landed, written from these and
+//! the call log format alone. It shares no code with the product, so that a slip in one shows as a
+//! difference.
 //!
-//! It covers plant files, offers, the fact check, and boards with their report. A board is there
-//! twice: by the definition, with a rule book that keeps every rule, and in a fast form with a gap
-//! table. Its programs:
+//! It covers plant files, read and written, offers, the fact check, and boards with their report. A
+//! board is there twice: by the definition, with a rule book that keeps every rule, and in a fast
+//! form with a gap table. Its programs:
 //!
 //! - `generate SEED CALLS [KIND]` writes a call log to standard output. The kind is `read`,
 //!   `board`, or `retire` for boards with retire. The lists that go through every limit take up to
-//!   30,000 calls, and `compare` wants some 30,000 to have seen enough, of boards 70,000.
+//!   35,000 calls, and `compare` wants some 40,000 to have seen enough, of boards 70,000.
 //! - `answer LOG` writes the answers of the fast form, for `compare` to hold against the definition.
 //! - `compare LOG ANSWERS [KIND]` holds the answers that the product's replay of the log wrote
 //!   against this implementation's, and fails on a difference or if the log showed too little.
@@ -28,7 +29,9 @@ pub mod offer;
 pub mod plant;
 pub mod replay;
 pub mod ruling;
+pub mod write;
 
 pub use facts::{fact_check, fact_check_forward};
 pub use plant::{allocations, check_plant};
 pub use ruling::{Refusal, Ruling};
+pub use write::write_plant;

@@ -1,12 +1,15 @@
 //! Call logs: the items of a log, read from and written as lines.
 
 use crate::board::{Board, BOARD_WORDS};
+use crate::write::Fields;
 use std::fmt;
 
-/// The most bytes a `plant`, `fact` or `plan` line may have.
+/// The most bytes a `plant`, `fact` or `plan` line may have, and the most room a `write` line.
 pub const MOST_BYTES: usize = 16_384;
 /// The most rows of a list that a log reports into.
 pub const MOST_ROWS: u32 = 64;
+/// The most actions that a `write` line may list.
+pub const MOST_LISTED: usize = 200;
 
 /// A line of a call log that asks for something.
 #[derive(Clone, Debug, PartialEq, Eq)]
@@ -19,6 +22,8 @@ pub enum Item {
     Check,
     /// Hand out an action's allocations.
     Part(u32),
+    /// Write a plant file of these actions into a buffer of so many bytes.
+    Write(u32, Vec<Fields>),
     /// The fact check of an offer.
     Fact(Vec<u8>),
     /// A fresh board with this horizon and lead.
@@ -49,6 +54,7 @@ impl Item {
             Item::Plant(_) => "plant",
             Item::Check => "check",
             Item::Part(_) => "part",
+            Item::Write(..) => "write",
             Item::Fact(_) => "fact",
             Item::Fresh(..) => "fresh",
             Item::Plan(_) => "plan",
@@ -82,6 +88,9 @@ pub fn parse(line: &str) -> Result<Option<Item>, &'static str> {
         ["plant", hex] => Item::Plant(parse_hex(hex)?),
         ["check"] => Item::Check,
         ["part", action] => Item::Part(parse_number(action)?),
+        ["write", room, count, ref numbers @ ..] => {
+            Item::Write(parse_number(room)?, parse_actions(count, numbers)?)
+        }
         ["fact", hex] => Item::Fact(parse_hex(hex)?),
         ["fresh", horizon, lead] => Item::Fresh(parse_number(horizon)?, parse_number(lead)?),
         ["plan", hex] => Item::Plan(parse_hex(hex)?),
@@ -98,6 +107,7 @@ pub fn parse(line: &str) -> Result<Option<Item>, &'static str> {
         Item::Plant(bytes) | Item::Fact(bytes) | Item::Plan(bytes) if bytes.len() > MOST_BYTES => {
             Err("too many bytes")
         }
+        Item::Write(room, _) if *room as usize > MOST_BYTES => Err("too much room"),
         Item::Report(room) if *room > MOST_ROWS => Err("too many rows"),
         _ => Ok(Some(item)),
     }
@@ -108,6 +118,27 @@ fn parse_number(word: &str) -> Result<u32, &'static str> {
         return Err("not a decimal number");
     }
     word.parse().map_err(|_| "not a 32-bit number")
+}
+
+/// As many actions as are counted, and nothing behind them.
+fn parse_actions(count: &str, numbers: &[&str]) -> Result<Vec<Fields>, &'static str> {
+    let count = parse_number(count)? as usize;
+    if count > MOST_LISTED {
+        return Err("too many actions");
+    }
+    let numbers: Result<Vec<u32>, _> = numbers.iter().map(|word| parse_number(word)).collect();
+    let numbers = numbers?;
+    let mut rest = &numbers[..];
+    let mut actions = Vec::new();
+    for _ in 0..count {
+        let (action, after) = Fields::split(rest).ok_or("too few numbers")?;
+        actions.push(action);
+        rest = after;
+    }
+    if !rest.is_empty() {
+        return Err("too many numbers");
+    }
+    Ok(actions)
 }
 
 fn parse_hex(word: &str) -> Result<Vec<u8>, &'static str> {
@@ -167,6 +198,11 @@ impl fmt::Display for Item {
             | Item::Clock(number)
             | Item::Report(number) => {
                 write!(f, "{word} {number}")
+            }
+            Item::Write(room, actions) => {
+                write!(f, "{word} {room} {}", actions.len())?;
+                let mut numbers = actions.iter().flat_map(Fields::numbers);
+                numbers.try_for_each(|number| write!(f, " {number}"))
             }
             Item::Fresh(horizon, lead) => write!(f, "{word} {horizon} {lead}"),
             Item::Board(board) => write!(f, "{word} {}", hex(&bytes_of(&board.words()[..]))),

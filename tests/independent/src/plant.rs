@@ -1,12 +1,12 @@
-//! Plant files, read in place: refusals 1 to 4.
+//! Plant files, read in place: refusals 1 to 4. Those that are written are in `write`.
 
 use crate::facts::Facts;
 use crate::ruling::{Refusal, Ruling};
 
-const MARK: [u8; 4] = [0x50, 0x4C, 0x4E, 0x54];
+pub const MARK: [u8; 4] = [0x50, 0x4C, 0x4E, 0x54];
 pub const MOST_ACTIONS: u32 = 128;
-const MOST_ALLOCATIONS: u32 = 4;
-const MOST_RESOURCE: u32 = 15;
+pub const MOST_ALLOCATIONS: u32 = 4;
+pub const MOST_RESOURCE: u32 = 15;
 /// The longest duration, offset and length, in milliseconds.
 pub const MOST_TIME: u32 = 1_000_000;
 
@@ -69,6 +69,11 @@ impl<'a> Plant<'a> {
 
     pub fn action_count(&self) -> usize {
         self.index.len()
+    }
+
+    /// All actions, in their order.
+    pub fn actions(&self) -> impl Iterator<Item = Action<'a>> + '_ {
+        (0..).map_while(|number| self.action(number))
     }
 
     pub fn action(&self, number: u32) -> Option<Action<'a>> {

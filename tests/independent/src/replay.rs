@@ -5,6 +5,7 @@ use crate::facts::fact_check;
 use crate::log::{hex, Item};
 use crate::plant::{allocations, check_plant};
 use crate::ruling::Ruling;
+use crate::write::file_of;
 use std::fmt;
 
 /// What is current between two items; the board is kept in one of its two forms.
@@ -19,6 +20,7 @@ pub enum Answer<'a> {
     List(&'a str),
     Ruling(Ruling),
     Part(&'a [u8]),
+    Written(Vec<u8>),
     Rows(Vec<Row>),
     Table(Board),
     State(Board),
@@ -41,6 +43,10 @@ impl<B: BoardCalls> Session<B> {
                 return None;
             }
             Item::Part(action) => return Some(Answer::Part(allocations(&self.plant, *action))),
+            Item::Write(room, actions) => match file_of(actions, *room as usize) {
+                Ok(file) => return Some(Answer::Written(file)),
+                Err(refusal) => Ruling::Refused(refusal),
+            },
             Item::Table => return Some(Answer::Table(self.board.board())),
             Item::State => return Some(Answer::State(self.board.board())),
             Item::Check => check_plant(&self.plant),
@@ -78,6 +84,7 @@ impl fmt::Display for Answer<'_> {
             Answer::List(name) => write!(f, "list {name}"),
             Answer::Ruling(ruling) => write!(f, "= {ruling}"),
             Answer::Part(part) => write!(f, "= 0 {}", hex(part)),
+            Answer::Written(file) => write!(f, "= 0 {} {}", file.len(), hex(file)),
             Answer::Rows(rows) => {
                 write!(f, "= 0 {}", rows.len())?;
                 for row in rows {

@@ -47,7 +47,7 @@ pub enum Refusal {
     NoneAfterClock,
     /// 21: there is no job to retire, or it is unsent, or something of it ends after the clock.
     NotRetired,
-    /// 22: the list is shorter than the rows.
+    /// 22: the list is shorter than the rows, or the buffer than the plant file.
     ShortList,
 }
 

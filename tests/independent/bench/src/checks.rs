@@ -1,108 +1,101 @@
-//! The fact check, timed on plants of 8 and of 128 actions. It has no table, so that there are only
-//! two forms: ours and the one in Rust; and another commit's library, where there is one.
+//! The fact check, timed on plants of 8 and of 128 actions, and the reading of such a plant alone. They
+//! have no table, so that there are only two forms: ours and the one in Rust; and another commit's
+//! library, where there is one.
 
+use crate::columns::{columns, microseconds, Column, ROUNDS};
 use crate::libraries::{Library, OtherCommit, ThisTree};
 use crate::ours;
-use crate::timing::median;
 use independent::fact_check;
 use independent::facts::Facts;
 use independent::generate::draft::{plant_file, ActionDraft, OfferDraft};
 use std::hint::black_box;
-use std::time::Instant;
-
-const ROUNDS: usize = 1_000;
-const CALLS_A_TURN: usize = 100;
 
 type FactCheck = fn(&[u8], &[u8]) -> u32;
-
-/// One form, and the nanoseconds that a call took in each of its turns.
-struct Column {
-    form: FactCheck,
-    turns: Vec<f64>,
-}
 
 fn in_rust(plant: &[u8], offer: &[u8]) -> u32 {
     fact_check(plant, offer).number()
 }
 
-fn forms() -> Vec<FactCheck> {
-    let mut forms: Vec<FactCheck> = vec![ours::fact_check::<ThisTree>, in_rust];
-    if OtherCommit::CALLS.fact_check.is_some() {
-        forms.push(ours::fact_check::<OtherCommit>);
-    }
-    forms
+fn forms() -> Vec<Column<FactCheck>> {
+    let earlier = OtherCommit::CALLS.fact_check;
+    let earlier = earlier.map(|_| ours::fact_check::<OtherCommit> as FactCheck);
+    columns(ours::fact_check::<ThisTree>, in_rust, earlier)
 }
 
-impl Column {
-    fn new(form: FactCheck) -> Self {
-        let turns = Vec::new();
-        Column { form, turns }
-    }
+// Each step leaves the facts that the next one needs as they are.
+const NEEDS: Facts = Facts::new(1, 2);
+const MAKES: Facts = Facts::new(1 | 4, 8);
 
-    fn take_turn(&mut self, plant: &[u8], offer: &[u8]) {
-        let start = Instant::now();
-        for _ in 0..CALLS_A_TURN {
-            black_box((self.form)(black_box(plant), black_box(offer)));
-        }
-        let nanoseconds = start.elapsed().as_nanos() as f64;
-        self.turns.push(nanoseconds / CALLS_A_TURN as f64);
-    }
+/// So many actions with four allocations each.
+pub fn actions(count: usize) -> Vec<ActionDraft> {
+    let last = [15, 1_000_000, 1_000_000];
+    let allocations = [[0, 0, 10], [5, 20, 1_000], [9, 0, 1], last];
+    vec![ActionDraft::new(NEEDS, MAKES, &allocations).lasting(10, 20); count]
 }
 
-/// A plant with four allocations in each action, and an offer of it that passes.
 pub struct Check {
-    pub actions: usize,
-    pub steps: usize,
+    pub call: &'static str,
+    pub size: String,
     plant: Vec<u8>,
     offer: Vec<u8>,
-    /// Ours, the one in Rust, and the other commit's where it can be called.
-    columns: Vec<Column>,
+    columns: Vec<Column<FactCheck>>,
 }
 
 impl Check {
+    /// An offer that passes.
     fn new(action_count: usize, step_count: usize) -> Self {
-        let last = [15, 1_000_000, 1_000_000];
-        let allocations = [[0, 0, 10], [5, 20, 1_000], [9, 0, 1], last];
-        // Each step leaves the facts that the next one needs as they are.
-        let needs = Facts::new(1, 2);
-        let makes = Facts::new(1 | 4, 8);
-        let action = ActionDraft::new(needs, makes, &allocations).lasting(10, 20);
-        let actions = vec![action; action_count];
+        let actions = actions(action_count);
         let chain: Vec<usize> = (0..step_count)
             .map(|step| step * 37 % action_count)
             .collect();
         let check = Check {
-            actions: action_count,
-            steps: step_count,
+            call: "fact check",
+            size: format!("{step_count} of {action_count} actions"),
             plant: plant_file(&actions),
-            offer: OfferDraft::new(needs, makes, &actions, &chain).bytes(),
-            columns: forms().into_iter().map(Column::new).collect(),
+            offer: OfferDraft::new(NEEDS, MAKES, &actions, &chain).bytes(),
+            columns: forms(),
         };
-        for column in &check.columns {
-            let number = (column.form)(&check.plant, &check.offer);
-            assert_eq!(number, 0, "a chain that passes");
+        check.expect(0)
+    }
+
+    /// No offer: the check is refused with 7 and does nothing but read the plant.
+    fn read(action_count: usize) -> Self {
+        let check = Check {
+            call: "read",
+            size: format!("{action_count} actions"),
+            plant: plant_file(&actions(action_count)),
+            offer: Vec::new(),
+            columns: forms(),
+        };
+        check.expect(7)
+    }
+
+    /// Every form must give this number.
+    fn expect(self, number: u32) -> Self {
+        for column in &self.columns {
+            let given = (column.form)(&self.plant, &self.offer);
+            assert_eq!(given, number, "{} {}", self.call, self.size);
         }
-        check
+        self
     }
 
     fn take_turns(&mut self) {
+        let (plant, offer) = (&self.plant, &self.offer);
         for column in &mut self.columns {
-            column.take_turn(&self.plant, &self.offer);
+            column.take_turn(|form| form(black_box(plant), black_box(offer)));
         }
     }
 
     /// Microseconds of a call, by column.
     pub fn microseconds(&mut self) -> Vec<f64> {
-        let columns = self.columns.iter_mut();
-        columns
-            .map(|column| median(&mut column.turns) / 1_000.0)
-            .collect()
+        microseconds(&mut self.columns)
     }
 }
 
 pub fn time() -> Vec<Check> {
     let sizes = [(8, 1), (8, 3), (8, 8), (128, 1), (128, 3), (128, 8)];
     let mut checks = Vec::from(sizes.map(|(actions, steps)| Check::new(actions, steps)));
+    checks.extend([8, 128].map(Check::read));
     for _ in 0..ROUNDS {
         checks.iter_mut().for_each(Check::take_turns);
     }

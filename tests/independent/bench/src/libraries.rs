@@ -9,6 +9,10 @@ use crate::forms::Call;
 pub use c_calls::SfRow;
 
 type FactCheck = unsafe extern "C" fn(*const u8, usize, *const u8, usize) -> u32;
+#[rustfmt::skip]
+type WritePlant = unsafe extern "C" fn(
+    *const u32, usize, *mut u8, usize, *mut u32, usize,
+) -> u32;
 type Fresh = unsafe extern "C" fn(*mut u32, usize, u32, u32) -> u32;
 #[rustfmt::skip]
 type Plan = unsafe extern "C" fn(
@@ -21,6 +25,7 @@ type Report = unsafe extern "C" fn(*const u32, usize, *mut SfRow, usize) -> u32;
 /// The calls of a library; those that it lacks, or that its header declares otherwise, are None.
 pub struct Calls {
     pub fact_check: Option<FactCheck>,
+    pub write_plant: Option<WritePlant>,
     pub fresh: Option<Fresh>,
     pub plan: Option<Plan>,
     pub send: Option<ToNumber>,
@@ -57,6 +62,7 @@ pub struct ThisTree;
 impl Library for ThisTree {
     const CALLS: Calls = Calls {
         fact_check: Some(c_calls::sf_fact_check),
+        write_plant: Some(c_calls::sf_write_plant),
         fresh: Some(c_calls::sf_fresh),
         plan: Some(c_calls::sf_plan),
         send: Some(c_calls::sf_send),
@@ -88,6 +94,7 @@ macro_rules! alike {
 impl Library for OtherCommit {
     const CALLS: Calls = Calls {
         fact_check: alike!(sf_fact_check),
+        write_plant: alike!(sf_write_plant),
         fresh: alike!(sf_fresh),
         plan: alike!(sf_plan),
         send: alike!(sf_send),

@@ -3,6 +3,7 @@
 //! and beside another commit's library, where ./bench was told of one.
 
 mod checks;
+mod columns;
 mod forms;
 mod libraries;
 mod ours;
@@ -12,6 +13,7 @@ mod show;
 mod timing;
 mod windows;
 mod work;
+mod writes;
 
 #[cfg(test)]
 mod tests;
@@ -46,20 +48,29 @@ fn case(work: &Work, name: &'static str, jobs: usize) -> Case {
     }
 }
 
-fn check_rows() -> Vec<TableRow> {
+/// A row of a call that has no board: ours, the one in Rust, and the other commit's.
+fn plain_row(call: &'static str, size: String, times: Vec<f64>) -> TableRow {
+    TableRow {
+        call,
+        size,
+        ours: times[0],
+        incremental: times[1],
+        others: None,
+        earlier: times.get(2).copied(),
+    }
+}
+
+fn plain_rows() -> Vec<TableRow> {
     let mut checks = checks::time();
-    let rows = checks.iter_mut().map(|check| {
-        let times = check.microseconds();
-        TableRow {
-            call: "fact check",
-            size: format!("{} of {} actions", check.steps, check.actions),
-            ours: times[0],
-            incremental: times[1],
-            others: None,
-            earlier: times.get(2).copied(),
-        }
+    let mut writes = writes::time();
+    let checks = checks
+        .iter_mut()
+        .map(|check| plain_row(check.call, check.size.clone(), check.microseconds()));
+    let writes = writes.iter_mut().map(|write| {
+        let size = format!("{} actions", write.actions);
+        plain_row("write", size, write.microseconds())
     });
-    rows.collect()
+    checks.chain(writes).collect()
 }
 
 /// Every call on boards of every size, timed.
@@ -94,7 +105,7 @@ fn chart_rows(work: &Work) -> Vec<(usize, f64, f64)> {
 
 fn main() {
     let work = Work::new();
-    let mut rows = check_rows();
+    let mut rows = plain_rows();
     let cases = board_cases(&work);
     rows.extend(cases.iter().map(|case| board_row(case, case.later_call())));
     show::table("microseconds a call, in a row", &rows);

@@ -17,6 +17,19 @@ pub fn fact_check<L: Library>(plant: &[u8], offer: &[u8]) -> u32 {
     unsafe { call(plant, plant_len, offer, offer_len) }
 }
 
+pub fn write_plant<L: Library>(actions: &[u32], plant: &mut [u8]) -> u32 {
+    let call = L::CALLS.write_plant.expect(LACKING);
+    let mut written = [0; 2];
+    let (actions, actions_len) = (actions.as_ptr(), actions.len());
+    let (plant, plant_len) = (plant.as_mut_ptr(), plant.len());
+    let (told, told_len) = (written.as_mut_ptr(), written.len());
+    // SAFETY: each pointer is lent with the length of a live array or slice of its own; the plant and
+    // what is told of it are borrowed as mutable, the actions are only read.
+    let number = unsafe { call(actions, actions_len, plant, plant_len, told, told_len) };
+    black_box(&written);
+    number
+}
+
 /// The words of a board.
 #[derive(Clone)]
 pub struct Product<L> {

@@ -3,9 +3,12 @@
 #[path = "../../c_calls.rs"]
 mod c_calls;
 
-use c_calls::{sf_clock, sf_fact_check, sf_fresh, sf_plan, sf_report, sf_retire, sf_send, SfRow};
+use c_calls::{
+    sf_clock, sf_fact_check, sf_fresh, sf_plan, sf_report, sf_retire, sf_send, sf_write_plant,
+    SfRow,
+};
 use independent::log::Item;
-use soak::product::{Lent, Product, ROW_WORDS};
+use soak::product::{Lent, LentToWrite, Product, ROW_WORDS};
 use std::ptr::{null, null_mut};
 
 pub struct CInterface;
@@ -35,10 +38,24 @@ impl Product for CInterface {
             }
         }
     }
+
+    fn write(&self, lent: LentToWrite) -> u32 {
+        let actions = lent.actions.map_or(null(), <[u32]>::as_ptr);
+        let actions_len = lent.actions.map_or(0, <[u32]>::len);
+        let (plant, plant_len) = lent_buffer(lent.plant);
+        let (written, written_len) = lent_words(lent.written);
+        // SAFETY: each pointer is lent with the length of a live slice of its own, or is NULL with
+        // length 0; those that the call writes through come from slices that may be written.
+        unsafe { sf_write_plant(actions, actions_len, plant, plant_len, written, written_len) }
+    }
 }
 
 fn lent_words(words: Option<&mut [u32]>) -> (*mut u32, usize) {
     words.map_or((null_mut(), 0), |words| (words.as_mut_ptr(), words.len()))
+}
+
+fn lent_buffer(bytes: Option<&mut [u8]>) -> (*mut u8, usize) {
+    bytes.map_or((null_mut(), 0), |bytes| (bytes.as_mut_ptr(), bytes.len()))
 }
 
 fn lent_rows(words: Option<&mut [u32]>) -> (*mut SfRow, usize) {

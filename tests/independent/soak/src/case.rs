@@ -1,5 +1,6 @@
 //! A list of calls, and how the ranges of each call are lent.
 
+use crate::writing::Writing;
 use independent::board::BOARD_WORDS;
 use independent::generate::rng::Rng;
 use independent::log::Item;
@@ -39,6 +40,8 @@ pub struct Lending {
     pub null: bool,
     /// Whether plant and offer lie in one block, and how.
     pub beside: Option<Beside>,
+    /// What a call lends that writes a plant file.
+    pub writing: Writing,
 }
 
 /// What is made longer, and to how many bytes.
@@ -75,6 +78,7 @@ impl Lending {
             more_rows: rng.pick(&[0, 0, 0, 0, 0, 1, 64, 1_000]),
             null: rng.one_in(2),
             beside: rng.one_in(2).then_some(beside),
+            writing: Writing::any(rng),
         }
     }
 }
@@ -112,6 +116,18 @@ impl fmt::Display for Lending {
 pub struct Step {
     pub item: Item,
     pub lending: Lending,
+}
+
+impl Step {
+    /// How the ranges of its call are lent.
+    pub fn lent(&self) -> String {
+        let Lending { writing, null, .. } = &self.lending;
+        let empty = if *null { "NULL" } else { "not NULL" };
+        match self.item {
+            Item::Write(..) => format!("{writing}, empty ranges {empty}"),
+            _ => self.lending.to_string(),
+        }
+    }
 }
 
 pub struct Case {

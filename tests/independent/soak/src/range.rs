@@ -4,6 +4,8 @@ use std::fmt::Display;
 
 /// What guards and the words that a call should leave alone hold before it.
 pub const PATTERN: u32 = 0xA5C3_5A3C;
+/// The same of bytes.
+pub const BYTE_PATTERN: u8 = 0xC3;
 
 /// Guards before and after the range are part of both. A range without guards is a block of the heap
 /// just as long as it is, so that a tool that watches the heap sees what reads past its ends.
@@ -27,7 +29,7 @@ impl<T: Copy + Display + PartialEq> Range<T> {
         &mut self.wanted[self.guard..end]
     }
 
-    /// The first word, guards included, that is not as it should be.
+    /// The first word or byte, guards included, that is not as it should be.
     pub fn difference(&self, name: &str) -> Option<String> {
         if self.lent == self.wanted {
             return None;
@@ -41,18 +43,29 @@ impl<T: Copy + Display + PartialEq> Range<T> {
             "{name} of {length}, place {place}: product {lent}, second implementation {wanted}"
         ))
     }
+
+    fn between(content: &[T], guards: &[T]) -> Self {
+        let all = [guards, content, guards].concat();
+        Range {
+            lent: all.clone(),
+            wanted: all,
+            guard: guards.len(),
+        }
+    }
+}
+
+impl Range<u8> {
+    /// A range between so many guard bytes on each side. Without them it begins where a block does;
+    /// with them, so many bytes further.
+    pub fn guarded_bytes(content: &[u8], guard: usize) -> Self {
+        Range::between(content, &vec![BYTE_PATTERN; guard])
+    }
 }
 
 impl Range<u32> {
     /// A range between so many guard words on each side.
     pub fn guarded(content: &[u32], guard: usize) -> Self {
-        let guards = vec![PATTERN; guard];
-        let words = [&guards[..], content, &guards[..]].concat();
-        Range {
-            lent: words.clone(),
-            wanted: words,
-            guard,
-        }
+        Range::between(content, &vec![PATTERN; guard])
     }
 
     /// Both sides go on with these words.
@@ -77,6 +90,20 @@ mod tests {
                 changed.lent[at] ^= 1 << 31;
                 let place = format!("place {}:", at as i64 - guard as i64);
                 let told = changed.difference("words").unwrap();
+                assert!(told.contains(&place), "{told}");
+            }
+        }
+    }
+
+    #[test]
+    fn a_changed_byte_is_seen_too() {
+        for guard in [0, 1, 5] {
+            for at in 0..3 + 2 * guard {
+                let mut changed = Range::guarded_bytes(&[1, 2, 3], guard);
+                assert_eq!(changed.difference("bytes"), None);
+                changed.lent[at] ^= 1;
+                let place = format!("place {}:", at as i64 - guard as i64);
+                let told = changed.difference("bytes").unwrap();
                 assert!(told.contains(&place), "{told}");
             }
         }

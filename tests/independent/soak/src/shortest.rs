@@ -87,7 +87,7 @@ impl fmt::Display for Shortest<'_> {
             writeln!(f, "{}", step.item)?;
         }
         if let Some(last) = self.steps.last() {
-            writeln!(f, "# lent: {}", last.lending)?;
+            writeln!(f, "# lent: {}", last.lent())?;
         }
         write!(f, "# {}", self.difference.told)
     }
@@ -101,14 +101,15 @@ mod tests {
     use crate::turns::Turns;
 
     /// Lists with one plant that reach their boards by calls alone, so that it is known how many
-    /// items a board takes at least.
+    /// items a board takes at least. What writes a plant has a board of its own, so that is left out.
     fn cases() -> impl Iterator<Item = Case> {
         let cases = Turns::new(7, 8).filter(|case| case.name.starts_with("retire-"));
         let one_plant = |mut case: Case| {
             let mut plants = 0;
             case.steps.retain(|step| {
-                plants += usize::from(step.item.word() == "plant");
-                step.item.word() != "plant" || plants == 1
+                let word = step.item.word();
+                plants += usize::from(word == "plant");
+                word != "write" && (word != "plant" || plants == 1)
             });
             case
         };

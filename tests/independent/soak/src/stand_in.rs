@@ -1,8 +1,10 @@
 //! Stand-ins for the product: the second implementation itself, and wrong ones.
 
-use crate::product::{Lent, Product};
+use crate::product::{Lent, LentToWrite, Product};
 use crate::second::{answer, write_rows};
+use crate::writing::tell;
 use independent::log::Item;
+use independent::write_plant;
 
 /// Answers as it should.
 pub struct Right;
@@ -20,6 +22,13 @@ impl Product for Right {
         write_rows(lent.rows.unwrap_or_default(), &answer.unwrap_or_default());
         number
     }
+
+    fn write(&self, lent: LentToWrite) -> u32 {
+        let actions = lent.actions.unwrap_or_default();
+        let ruled = write_plant(actions, lent.plant.unwrap_or_default());
+        tell(lent.written.unwrap_or_default(), ruled);
+        ruled.map_or_else(|refusal| refusal.number_and_value().0, |_| 0)
+    }
 }
 
 /// Answers as it should, and then spoils the ranges or the number.
@@ -35,5 +44,27 @@ impl Product for Wrong {
         };
         let number = Right.ask(item, right);
         (self.0)(item, number, lent)
+    }
+    fn write(&self, lent: LentToWrite) -> u32 {
+        Right.write(lent)
+    }
+}
+
+/// Writes as it should, and then spoils the ranges or the number.
+pub struct WrongWriter(pub fn(u32, LentToWrite) -> u32);
+
+impl Product for WrongWriter {
+    fn ask(&self, item: &Item, lent: Lent) -> u32 {
+        Right.ask(item, lent)
+    }
+
+    fn write(&self, mut lent: LentToWrite) -> u32 {
+        let right = LentToWrite {
+            actions: lent.actions,
+            plant: lent.plant.as_deref_mut(),
+            written: lent.written.as_deref_mut(),
+        };
+        let number = Right.write(right);
+        (self.0)(number, lent)
     }
 }

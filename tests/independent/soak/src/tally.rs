@@ -1,11 +1,12 @@
 //! What a run has seen.
 
 use crate::case::OTHER_LENGTHS;
+use crate::writing::{OTHER_COUNTS, WRITTEN_ROOMS};
 use std::collections::BTreeMap;
 use std::fmt;
 use std::time::Duration;
 
-/// Accepted and document 01's refusals: 0 to 22.
+/// Accepted and the refusals of documents 01 and 02: 0 to 22.
 pub const NUMBERS: usize = 23;
 
 /// A way to lend ranges that a run must have tried.
@@ -24,9 +25,27 @@ pub enum Way {
     JustRoom,
     OneShort,
     NoRoom,
+    /// Words to write that are no whole number of actions, and so many actions, which are refused
+    /// before the true ones are lent.
+    OddWords,
+    OtherCount(usize),
+    /// Good actions to write with more room than their file takes, with just as much, with one byte
+    /// less, and with none.
+    FileMoreRoom,
+    FileJustRoom,
+    FileOneShort,
+    FileNoRoom,
+    /// Actions that are refused for what they are, with no room either.
+    RefusedWithoutRoom,
+    /// A file written at a place that is no multiple of four.
+    Unaligned,
+    /// A list with so many words for what a call has to tell of the file.
+    WrittenRoom(usize),
+    /// Fact checks and plans that read a file just written.
+    ReadBack,
 }
 
-const WAYS: [Way; 7] = [
+const WAYS: [Way; 15] = [
     Way::LongPlant,
     Way::LongOffer,
     Way::Beside,
@@ -34,6 +53,14 @@ const WAYS: [Way; 7] = [
     Way::JustRoom,
     Way::OneShort,
     Way::NoRoom,
+    Way::OddWords,
+    Way::FileMoreRoom,
+    Way::FileJustRoom,
+    Way::FileOneShort,
+    Way::FileNoRoom,
+    Way::RefusedWithoutRoom,
+    Way::Unaligned,
+    Way::ReadBack,
 ];
 
 #[derive(Default)]
@@ -53,7 +80,7 @@ impl Tally {
         *self.ways.entry(way).or_default() += 1;
     }
 
-    /// Calls that are made before the true one aren't among the numbers.
+    /// Calls that are made before or after the true one aren't among the numbers.
     pub fn calls(&self) -> u64 {
         let first = self.ways.iter().filter(|(way, _)| way.is_a_call());
         first.map(|(_, times)| times).sum::<u64>() + self.numbers.iter().sum::<u64>()
@@ -63,7 +90,9 @@ impl Tally {
     pub fn unseen(&self) -> Vec<String> {
         let numbers = (0..NUMBERS).filter(|&number| self.numbers[number] == 0);
         let lengths = OTHER_LENGTHS.map(Way::OtherLength);
-        let ways = lengths.into_iter().chain(WAYS);
+        let counts = OTHER_COUNTS.map(Way::OtherCount);
+        let rooms = WRITTEN_ROOMS.map(Way::WrittenRoom);
+        let ways = lengths.into_iter().chain(WAYS).chain(counts).chain(rooms);
         let ways = ways.filter(|way| !self.ways.contains_key(way));
         let numbers = numbers.map(|number| format!("number {number}"));
         numbers.chain(ways.map(|way| way.to_string())).collect()
@@ -72,7 +101,15 @@ impl Tally {
 
 impl Way {
     fn is_a_call(self) -> bool {
-        matches!(self, Way::OtherLength(_) | Way::LongPlant | Way::LongOffer)
+        matches!(
+            self,
+            Way::OtherLength(_)
+                | Way::LongPlant
+                | Way::LongOffer
+                | Way::OddWords
+                | Way::OtherCount(_)
+                | Way::ReadBack
+        )
     }
 }
 
@@ -87,6 +124,16 @@ impl fmt::Display for Way {
             Way::JustRoom => write!(f, "reports with just as much room as rows"),
             Way::OneShort => write!(f, "reports with room for one row less"),
             Way::NoRoom => write!(f, "reports of rows with no room"),
+            Way::OddWords => write!(f, "files of no whole number of actions"),
+            Way::OtherCount(count) => write!(f, "files of {count} actions"),
+            Way::FileMoreRoom => write!(f, "files with more room than they take"),
+            Way::FileJustRoom => write!(f, "files with just as much room as they take"),
+            Way::FileOneShort => write!(f, "files with room for one byte less"),
+            Way::FileNoRoom => write!(f, "files with no room"),
+            Way::RefusedWithoutRoom => write!(f, "actions refused for what they are, with no room"),
+            Way::Unaligned => write!(f, "files at a place that is no multiple of four"),
+            Way::WrittenRoom(words) => write!(f, "files told of in a list of length {words}"),
+            Way::ReadBack => write!(f, "calls that read a file just written"),
         }
     }
 }

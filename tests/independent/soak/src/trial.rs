@@ -62,6 +62,7 @@ impl<'a, P: Product> Trial<'a, P> {
         match &step.item {
             Item::Plant(file) => self.lender.plant.clone_from(file),
             Item::Board(board) => self.board.set(&board.words()[..]),
+            Item::Write(room, actions) => return self.lender.write(step, *room, actions),
             item if has_call(item) => {
                 self.call_on_another_length(step)?;
                 self.call_with_more_bytes(step)?;

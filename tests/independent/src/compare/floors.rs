@@ -12,10 +12,15 @@ pub struct Floor {
     pub ends: &'static [(u32, u32)],
 }
 
-const READ: [Floor; 2] = [
+const READ: [Floor; 3] = [
     Floor {
         call: "check",
         numbers: &[0, 1, 2, 3, 4],
+        ends: &[(3, 127), (4, 127)],
+    },
+    Floor {
+        call: "write",
+        numbers: &[0, 2, 3, 4, 22],
         ends: &[(3, 127), (4, 127)],
     },
     Floor {
@@ -26,7 +31,12 @@ const READ: [Floor; 2] = [
 ];
 
 /// Retire comes last, to be left out of a log without it.
-const BOARD: [Floor; 6] = [
+const BOARD: [Floor; 7] = [
+    Floor {
+        call: "write",
+        numbers: &[0],
+        ends: &[],
+    },
     Floor {
         call: "fresh",
         numbers: &[0, 5],
@@ -59,7 +69,15 @@ const BOARD: [Floor; 6] = [
     },
 ];
 
-const READ_SIGHTS: [(Sight, usize); 7] = [
+const READ_SIGHTS: [(Sight, usize); 15] = [
+    (Sight::WrittenPlant, 1_000),
+    (Sight::LargestFile, 4),
+    (Sight::FileMoreRoom, 50),
+    (Sight::FileJustRoom, 500),
+    (Sight::FileOneShort, 300),
+    (Sight::FileNoRoom, 10),
+    (Sight::RefusedWithoutRoom, 500),
+    (Sight::LowByte, 50),
     (Sight::EmptyPart, 50),
     (Sight::FilledPart, 50),
     (Sight::ForwardPassed, 3_000),
@@ -70,7 +88,8 @@ const READ_SIGHTS: [(Sight, usize); 7] = [
 ];
 
 /// The last one is for logs that retire.
-const BOARD_SIGHTS: [(Sight, usize); 28] = [
+const BOARD_SIGHTS: [(Sight, usize); 29] = [
+    (Sight::WrittenPlant, 100),
     (Sight::Table, 1_000),
     (Sight::State, 1_000),
     (Sight::AllPoints, 50),

@@ -9,8 +9,9 @@ use crate::board::{
 };
 use crate::log::{Item, MOST_BYTES};
 use crate::offer::Offer;
-use crate::plant::{Plant, MOST_ACTIONS};
+use crate::plant::{Plant, MOST_ACTIONS, MOST_ALLOCATIONS};
 use crate::replay::Session;
+use crate::write::{file_of, Fields, MOST_FILE};
 use std::ops::Range;
 
 /// The triangle law of up to so many live points, the origin among them, may be tested by other
@@ -35,6 +36,8 @@ pub struct Reach {
     resources: [usize; RESOURCES],
     /// The words of a sound board made by hand, which others that are made of it may follow.
     base: Option<Box<[u32; BOARD_WORDS]>>,
+    /// The file that the item before wrote.
+    written: Option<Vec<u8>>,
 }
 
 impl Reach {
@@ -46,7 +49,10 @@ impl Reach {
     /// What an item shows by the plant and the board that stand after it.
     pub fn sights(&mut self, item: &Item, accepted: bool, session: &Session) -> Vec<Sight> {
         let book = session.board().book();
+        let before = self.written.take();
         match (item, book) {
+            (Item::Write(room, actions), _) => self.write(*room as usize, actions),
+            (Item::Plant(plant), _) if before.as_ref() == Some(plant) => vec![Sight::WrittenPlant],
             (Item::Plant(plant), _) if plant.len() == MOST_BYTES => vec![Sight::LongestPlant],
             // No good offer is so long.
             (Item::Plan(offer) | Item::Fact(offer), _) if offer.len() == MOST_BYTES => {
@@ -92,6 +98,23 @@ impl Reach {
             (Sight::HighBits, one_bit_apart),
         ];
         only_seen(&seen)
+    }
+
+    fn write(&mut self, room: usize, actions: &[Fields]) -> Vec<Sight> {
+        let passes = |n: u32| n <= MOST_ALLOCATIONS;
+        let low_byte = |action: &Fields| !passes(action.n) && passes(action.n & 0xFF);
+        let file = file_of(actions, MOST_FILE);
+        let length = file.as_ref().map_or(0, Vec::len);
+        let good = file.is_ok();
+        self.written = file.ok().filter(|file| file.len() <= room);
+        only_seen(&[
+            (Sight::FileMoreRoom, good && room > length),
+            (Sight::FileJustRoom, good && room == length),
+            (Sight::FileOneShort, good && room + 1 == length),
+            (Sight::FileNoRoom, good && room == 0),
+            (Sight::RefusedWithoutRoom, !good && room == 0),
+            (Sight::LowByte, actions.iter().any(low_byte)),
+        ])
     }
 
     fn by_hand(&mut self, board: &Board, sound: bool) -> Vec<Sight> {

@@ -2,11 +2,26 @@
 
 use crate::board::{MOST_JOBS, MOST_POINTS, MOST_USES, SIDE};
 use crate::replay::Answer;
+use crate::write::MOST_FILE;
 
 #[derive(Clone, Copy, Debug, PartialEq, Eq, PartialOrd, Ord)]
 pub enum Sight {
     EmptyPart,
     FilledPart,
+    /// A plant whose bytes were written just before.
+    WrittenPlant,
+    /// A written file of as many bytes as any can have.
+    LargestFile,
+    /// Good actions written into a buffer with more room than the file takes, with just as much,
+    /// with one byte less, and with none.
+    FileMoreRoom,
+    FileJustRoom,
+    FileOneShort,
+    FileNoRoom,
+    /// Actions refused for what they are, with no room either.
+    RefusedWithoutRoom,
+    /// An n above 4 whose low byte would pass.
+    LowByte,
     ForwardPassed,
     ForwardFailed,
     ForwardGoalClash,
@@ -63,6 +78,14 @@ impl Sight {
         match self {
             Sight::EmptyPart => "empty parts",
             Sight::FilledPart => "parts with bytes",
+            Sight::WrittenPlant => "plants that were written just before",
+            Sight::LargestFile => "written files of 10,252 bytes",
+            Sight::FileMoreRoom => "files with more room than they take",
+            Sight::FileJustRoom => "files with just as much room as they take",
+            Sight::FileOneShort => "files with room for one byte less",
+            Sight::FileNoRoom => "files with no room",
+            Sight::RefusedWithoutRoom => "actions refused for what they are, with no room",
+            Sight::LowByte => "numbers of allocations whose low byte would pass",
             Sight::ForwardPassed => "passed forward",
             Sight::ForwardFailed => "failed forward",
             Sight::ForwardGoalClash => "goals that clash, run forward",
@@ -104,6 +127,9 @@ impl Sight {
             Answer::List(_) | Answer::Ruling(_) => {}
             Answer::Part([]) => sights.push(Sight::EmptyPart),
             Answer::Part(_) => sights.push(Sight::FilledPart),
+            Answer::Written(file) => {
+                sights.extend((file.len() == MOST_FILE).then_some(Sight::LargestFile));
+            }
             Answer::Rows(rows) => match rows.len() {
                 0 => sights.push(Sight::NoRows),
                 MOST_POINTS => sights.push(Sight::AllRows),

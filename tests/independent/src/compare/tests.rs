@@ -1,6 +1,7 @@
 use super::*;
 use crate::board::{Board, BOARD_WORDS};
 use crate::generate::draft::{plant_file, proving_offer, proving_plant};
+use crate::write::Fields;
 
 const LOG: &str = "# a comment\nlist a\n\nplant 00\ncheck\npart 3\nfact -\n";
 
@@ -70,6 +71,58 @@ fn compared(items: &[Item]) -> Comparison {
         }
     }
     compare(log.as_bytes(), answers.as_bytes()).unwrap()
+}
+
+#[test]
+fn a_written_file_is_compared_whole() {
+    let log = "write 44 1 0 0 0 0 1 1 0\nwrite 43 1 0 0 0 0 1 1 0\nwrite 0 1 0 0 0 0 1 1 256 0 0 1 0 0 1 0 0 1 0 0 1\n";
+    let file =
+        "00000000000000000000000000000000010000000100000000000000000000001c00000001000000504c4e54";
+    let right = format!("= 0 44 {file}\n= 22\n= 3 0\n");
+    assert!(told(log, &right).is_empty());
+    let cases = [
+        (right.replace("= 0 44", "= 0 43"), "line 1"),
+        (right.replace("4c4e54", "4c4e55"), "line 1"),
+        (right.replace("= 22", "= 22 0"), "line 2"),
+        (right.replace("= 3 0", "= 22"), "line 3"),
+    ];
+    for (answers, text) in cases {
+        let told = told(log, &answers);
+        assert_eq!(told.len(), 1, "{told:?}");
+        assert!(told[0].contains(text), "{told:?}");
+    }
+}
+
+#[test]
+fn the_room_of_a_written_file_is_seen() {
+    let actions: Vec<Fields> = proving_plant().iter().map(Fields::from).collect();
+    let mut bad = actions.clone();
+    bad[1].n = 257;
+    let write = |room| Item::Write(room, actions.clone());
+    let file = Item::Plant(plant_file(&proving_plant()));
+    let comparison = compared(&[
+        write(120),
+        file.clone(),
+        write(119),
+        file,
+        write(121),
+        write(0),
+        Item::Write(0, bad),
+    ]);
+    assert_eq!(comparison.differences, 0);
+    assert_eq!(comparison.calls(), 5);
+    for (sight, times) in [
+        (Sight::WrittenPlant, 1),
+        (Sight::FileJustRoom, 1),
+        (Sight::FileOneShort, 1),
+        (Sight::FileMoreRoom, 1),
+        (Sight::FileNoRoom, 1),
+        (Sight::RefusedWithoutRoom, 1),
+        (Sight::LowByte, 1),
+        (Sight::LargestFile, 0),
+    ] {
+        assert_eq!(comparison.seen(sight), times, "{sight:?}");
+    }
 }
 
 #[test]

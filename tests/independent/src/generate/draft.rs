@@ -2,6 +2,7 @@
 //! field can be set wrong, which a type for good files only would forbid.
 
 use crate::facts::Facts;
+use crate::write::Fields;
 
 #[derive(Clone)]
 pub struct ActionDraft {
@@ -43,6 +44,25 @@ impl ActionDraft {
         out.push(self.n);
         out.extend(self.spare);
         push_words(out, self.allocations.as_flattened());
+    }
+}
+
+/// What the action says as fields: the spare bytes, and allocations past the fourth, have none.
+impl From<&ActionDraft> for Fields {
+    fn from(draft: &ActionDraft) -> Self {
+        let mut fields = Fields {
+            needs: draft.needs,
+            makes: draft.makes,
+            shortest: draft.shortest,
+            longest: draft.longest,
+            n: u32::from(draft.n),
+            ..Fields::default()
+        };
+        let listed = fields.listed();
+        for (slot, allocation) in fields.slots[..listed].iter_mut().zip(&draft.allocations) {
+            *slot = *allocation;
+        }
+        fields
     }
 }
 
@@ -123,6 +143,20 @@ impl OfferDraft {
             known,
             goal,
             steps: chain.iter().map(step).collect(),
+            ..Self::default()
+        }
+    }
+
+    /// An offer of one action alone, its needs known and its makes wanted, so that its facts pass.
+    pub fn alone(number: u32, action: &Fields) -> Self {
+        let step = StepDraft {
+            action: number,
+            places: vec![0; action.listed()],
+        };
+        OfferDraft {
+            known: action.needs,
+            goal: action.makes,
+            steps: vec![step],
             ..Self::default()
         }
     }

@@ -7,10 +7,10 @@ use crate::facts::Facts;
 use crate::log::MOST_BYTES;
 
 const NONE: Facts = Facts::NONE;
-const TIMES: [u32; 8] = [0, 1, 2, 999_999, 1_000_000, 1_000_001, 1 << 31, u32::MAX];
+pub const TIMES: [u32; 8] = [0, 1, 2, 999_999, 1_000_000, 1_000_001, 1 << 31, u32::MAX];
 
 /// Three actions without facts, so that any offer of them passes as long as the file is good.
-fn base() -> Vec<ActionDraft> {
+pub fn base() -> Vec<ActionDraft> {
     vec![
         ActionDraft::new(NONE, NONE, &[[0, 0, 1], [15, 1_000_000, 1_000_000]]),
         ActionDraft::new(NONE, NONE, &[[1, 2, 3]; 4]).lasting(1, 1_000_000),
@@ -19,7 +19,7 @@ fn base() -> Vec<ActionDraft> {
 }
 
 /// So many actions, each with four allocations.
-fn many(count: usize) -> Vec<ActionDraft> {
+pub fn many(count: usize) -> Vec<ActionDraft> {
     vec![ActionDraft::new(NONE, NONE, &[[3, 4, 5]; 4]); count]
 }
 

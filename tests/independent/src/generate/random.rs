@@ -4,7 +4,7 @@ use super::damage::{damage_action, damage_bytes, damage_facts, damage_format, da
 use super::draft::{plant_file, PlantDraft};
 use super::rng::Rng;
 use super::world::World;
-use super::List;
+use super::{writes, List};
 
 pub fn random(rng: &mut Rng, list: &mut List) {
     let world = any_world(rng);
@@ -15,6 +15,10 @@ pub fn random(rng: &mut Rng, list: &mut List) {
         list.part(action);
     }
     for _ in 0..24 {
+        list.fact(&any_offer(rng, &world));
+    }
+    for _ in 0..rng.below(4) {
+        writes::any(rng, list, &world);
         list.fact(&any_offer(rng, &world));
     }
     for _ in 0..rng.below(6) {

@@ -3,6 +3,7 @@
 use crate::board::definition::RuleBook;
 use crate::board::Board;
 use crate::generate::draft::OfferDraft;
+use crate::generate::writes::written_back;
 use crate::log::{Item, MOST_ROWS};
 use crate::replay::{Answer, Session};
 
@@ -36,7 +37,11 @@ impl Script {
         number
     }
 
+    /// The plant from now on. A good file is written from its actions first.
     pub fn plant(&mut self, file: Vec<u8>) {
+        if let Some(write) = written_back(&file) {
+            self.add(write);
+        }
         self.add(Item::Plant(file));
     }
 

@@ -1,0 +1,10 @@
+pub mod Words
+pub mod Records
+pub mod File
+pub mod Canonical
+pub mod Stored
+pub mod LentLaws
+pub mod Measured
+pub mod Answers
+pub mod Wording
+pub mod Theorem

@@ -1,0 +1,4 @@
+pub mod Written
+pub mod Lent
+pub mod Parts
+pub mod Canonical
