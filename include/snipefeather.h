@@ -69,7 +69,7 @@ uint32_t sf_fact_check(const uint8_t *plant, size_t plant_len, const uint8_t *of
  * above SF_MOST_ALLOCATIONS) and 4, action by action; 22 (`plant_len`, a number of bytes, is below the file's length). Where `written` has a word, it
  * becomes the action that 3 and 4 speak of, and 0 where there is none; where it has a second one, that becomes the file's length, and 0 where refused.
  * Bytes past the file, and all of them where refused, stay as they were. The length is 28 bytes for each action, 12 for each allocation, 4 for each
- * action's index entry, and 12: never more than SF_MOST_PLANT_BYTES. Stack: 0.2 KB. */
+ * action's index entry, and 12: never more than SF_MOST_PLANT_BYTES. Stack: 0.1 KB. */
 #define SF_ACTION_WORDS 19
 #define SF_MOST_ACTIONS 128
 #define SF_MOST_ALLOCATIONS 4
