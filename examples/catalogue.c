@@ -59,9 +59,10 @@ static void write_plant(size_t room) {
     }
 }
 
-/* A sheet that is fed in is to be stacked: it is printed, turned and stacked, each time the first in the line of its machine. */
+/* A sheet that is fed in is to be stacked, whenever that is: it is printed, turned and stacked, each time the first in the line of its machine. */
 static void plan(void) {
-    const uint32_t words[] = {0, FED, 0, STACKED, 0, ACTIONS, PRINT, 0, TURN, 0, 0, STACK};
+    /* batch, known, known not, goal, goal not, number of steps, due time; the steps, each with its places */
+    const uint32_t words[] = {0, FED, 0, STACKED, 0, ACTIONS, 0, PRINT, 0, TURN, 0, 0, STACK};
     uint8_t offer[sizeof words];
     uint32_t cause;
     for (size_t k = 0; k < sizeof offer; k++)

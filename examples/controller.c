@@ -1,4 +1,5 @@
-/* A print line's controller in small: two jobs are offered to the board, one offer is refused, the first job runs and leaves.
+/* A print line's controller in small: two jobs are offered to the board, the second of which must leave by a stated time; three offers are refused; the
+ * first job runs and leaves.
  *
  * Build it with the board's library (rt staticlib cabi):
  *     cc -std=c11 -Iinclude examples/controller.c target/staticlib/libcabi.a -o controller
@@ -16,9 +17,11 @@ static const uint32_t plant_words[] = {
     0, 40, 68, 2, 0x544e4c50,        /* where the records begin; where this index begins, how many actions, the mark PLNT */
 };
 
-/* A sheet that is there is to be printed and stacked; its print comes behind `before` others in the line of resource 0. */
-static size_t offer_words(uint32_t *words, uint32_t known, uint32_t before) {
-    const uint32_t offer[] = {0, known, 0, 4, 0, 2, 0, before, 1}; /* batch, known, known not, goal, goal not; 2 steps: print, its place, stack */
+/* A sheet that is there is to be printed and stacked by the time `due` (0: whenever it is); its print comes behind `before` others in the line of
+ * resource 0. */
+static size_t offer_words(uint32_t *words, uint32_t known, uint32_t due, uint32_t before) {
+    /* batch, known, known not, goal, goal not, number of steps, due time; the steps: print, its place, stack */
+    const uint32_t offer[] = {0, known, 0, 4, 0, 2, due, 0, before, 1};
     const size_t n = sizeof offer / sizeof offer[0];
     for (size_t k = 0; k < n; k++)
         words[k] = offer[k];
@@ -36,10 +39,10 @@ static uint32_t board[SF_BOARD_WORDS];
 static uint8_t plant[sizeof plant_words];
 static size_t plant_len;
 
-static void plan(const char *sheet, uint32_t known, uint32_t before) {
+static void plan(const char *sheet, uint32_t known, uint32_t due, uint32_t before) {
     uint32_t words[16];
     uint8_t offer[64];
-    size_t offer_len = to_bytes(offer, words, offer_words(words, known, before));
+    size_t offer_len = to_bytes(offer, words, offer_words(words, known, due, before));
     uint32_t cause;
     uint32_t number = sf_plan(board, SF_BOARD_WORDS, plant, plant_len, offer, offer_len, &cause, 1);
     if (number == SF_ACCEPTED)
@@ -70,9 +73,11 @@ int main(void) {
     plant_len = to_bytes(plant, plant_words, sizeof plant_words / sizeof plant_words[0]);
 
     told("a fresh board, 1000 ms long", sf_fresh(board, SF_BOARD_WORDS, 1000, 5));
-    plan("sheet A", 1, 0);
-    plan("a sheet that is not there", 0, 1);
-    plan("sheet B, behind A", 1, 1);
+    plan("sheet A", 1, 0, 0);
+    plan("a sheet that is not there", 0, 0, 1);
+    plan("sheet B, behind A, due at 2000 ms", 1, 2000, 1);
+    plan("sheet B, behind A, due at 25 ms", 1, 25, 1);
+    plan("sheet B, behind A, due at 100 ms", 1, 100, 1);
     report();
 
     told("send the oldest job", sf_send(board, SF_BOARD_WORDS, 0));

@@ -64,17 +64,24 @@ function number(name) {
     return action[name]
 }
 
-# the offer of "sheet 7 of batch 1, duplex: feed-a:0 front-a:2 .."
-function offer(text,    head, body, words, steps, n, i, j, step, places, m, hex) {
+# the number that follows "batch" or "due" in a sheet's n words; 0 where that is not said
+function behind(name, words, n,    i) {
+    for (i = 3; i < n; i++) if (words[i] == name) return words[i + 1]
+    return 0
+}
+
+# the offer of "sheet 7 of batch 1 due 9000, duplex: feed-a:0 front-a:2 .."
+function offer(text,    head, body, words, steps, n, i, j, step, places, m, hex, due) {
     i = index(text, ": ")
     head = substr(text, 1, i - 1)
     body = substr(text, i + 2)
-    if (head !~ /^sheet [^ ]+( of batch [0-9]+)?, [^ ]+$/) stop("not 'sheet NAME of batch N, KIND: CHAIN'")
+    if (head !~ /^sheet [^ ]+( of batch [0-9]+)?( due [0-9]+)?, [^ ]+$/) stop("not 'sheet NAME of batch N due TIME, KIND: CHAIN'")
     n = split(head, words, / |, /)
     if (!(words[n] in kind)) stop("no kind is called '" words[n] "'")
-    hex = word(n == 6 ? words[5] : 0) kind[words[n]]
+    hex = word(behind("batch", words, n)) kind[words[n]]
+    due = word(behind("due", words, n))
     n = split(body, steps, " ")
-    hex = hex word(n)
+    hex = hex word(n) due
     for (i = 1; i <= n; i++) {
         split(steps[i], step, ":")
         hex = hex word(number(step[1]))

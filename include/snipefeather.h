@@ -26,8 +26,8 @@ extern "C" {
 
 /* The version of this interface. The first number changes where a program that was written for it must be changed, the
  * second where a call is added. */
-#define SF_VERSION_MAJOR 1
-#define SF_VERSION_MINOR 1
+#define SF_VERSION_MAJOR 2
+#define SF_VERSION_MINOR 0
 
 /* What a call returns: SF_ACCEPTED, or the first refusal that holds. Behind some stands the value that sf_plan gives in `cause`, and
  * sf_write_plant in `written`; all of these count from 0, allocations through all steps of the offer. */
@@ -41,7 +41,7 @@ enum sf_number {
                                (action) */
     SF_BAD_SETTINGS = 5,    /* the horizon or the lead is out of range */
     SF_UNSOUND = 6,         /* the board is not sound */
-    SF_OFFER_HEADER = 7,    /* the offer has under 24 bytes or a step count outside 1 to 8 */
+    SF_OFFER_HEADER = 7,    /* the offer has under 28 bytes or a step count outside 1 to 8 */
     SF_OFFER_STEP = 8,      /* a step's bytes run past the offer, or the plant has no such action (step) */
     SF_OFFER_LENGTH = 9,    /* bytes are left over */
     SF_BOTH_WAYS = 10,      /* a fact is both known true and known false, or both in the goal */
@@ -56,11 +56,13 @@ enum sf_number {
     SF_BAD_CLOCK = 19,      /* the clock would go back or pass the horizon */
     SF_CLOCK_TOO_LATE = 20, /* no timetable is left after the clock's rules */
     SF_NOT_OVER = 21,       /* there is no job to retire, or the oldest is unsent, or its last point or an allocation ends after the clock */
-    SF_SHORT_LIST = 22      /* the list is shorter than the rows, or the buffer than the file */
+    SF_SHORT_LIST = 22,     /* the list is shorter than the rows, or the buffer than the file */
+    SF_DUE_TOO_LATE = 23    /* the due time is past the horizon */
 };
 
 /* The fact check: whether a chain is sure to run through to its goal, whatever is not known of the sheet. Lends a plant file and an offer:
- * nothing is written. SF_ACCEPTED where the chain passes, or the first of 1 to 4 and 7 to 13. Stack: 0.3 KB. */
+ * nothing is written. SF_ACCEPTED where the chain passes, or the first of 1 to 4 and 7 to 13. It sees no board, so that it passes every due time.
+ * Stack: 0.3 KB. */
 uint32_t sf_fact_check(const uint8_t *plant, size_t plant_len, const uint8_t *offer, size_t offer_len);
 
 /* Writes a plant file from its actions' fields into the buffer `plant`. `actions` has SF_ACTION_WORDS words for each action: needs-true, needs-false,
@@ -79,7 +81,8 @@ uint32_t sf_write_plant(const uint32_t *actions, size_t actions_len, uint8_t *pl
 /* The board, lent as its words. A board comes from sf_fresh, and goes from call to call. Where each word stands:
  *
  *   SF_HORIZON_AT, SF_LEAD_AT, SF_CLOCK_AT, SF_COUNT_AT     the head: horizon, lead, clock, number of jobs
- *   SF_JOBS_AT + SF_JOB_WORDS * k                           job k, oldest first: SF_JOB_POINTS, SF_JOB_BATCH, SF_JOB_SENT (0 or 1) behind it
+ *   SF_JOBS_AT + SF_JOB_WORDS * k                           job k, oldest first: SF_JOB_POINTS, SF_JOB_BATCH, SF_JOB_SENT (0 or 1), SF_JOB_DUE
+ *                                                           (0: no due time) behind it
  *   SF_LINES_AT + SF_LINE_WORDS * r                         the line of resource r: its number of uses, and from SF_LINE_USES behind it on
  *                                                           SF_USE_WORDS for each: SF_USE_POINT, SF_USE_OFFSET, SF_USE_LENGTH
  *   SF_CELLS_AT + SF_SIDE * i + j                           the gap from point i to point j plus SF_BIAS; 0 where one of them is no live point
@@ -104,7 +107,8 @@ uint32_t sf_write_plant(const uint32_t *actions, size_t actions_len, uint8_t *pl
 #define SF_JOB_POINTS 0
 #define SF_JOB_BATCH 1
 #define SF_JOB_SENT 2
-#define SF_JOB_WORDS 3
+#define SF_JOB_DUE 3
+#define SF_JOB_WORDS 4
 
 #define SF_USE_POINT 0
 #define SF_USE_OFFSET 1
@@ -123,8 +127,9 @@ uint32_t sf_write_plant(const uint32_t *actions, size_t actions_len, uint8_t *pl
  * Stack: 3.1 KB. */
 uint32_t sf_fresh(uint32_t *board, size_t board_len, uint32_t horizon, uint32_t lead);
 
-/* Plans an offer: the board gets the offer's job, its newest. Refusals, in this order: 1 to 4 (the plant file), 6, 7 to 17. Where `cause` has a word,
- * its first word becomes the action, step, fact or allocation that the refusal speaks of, and 0 where there is none. Stack: 21 KB. */
+/* Plans an offer: the board gets the offer's job, its newest. Where the offer has a due time, the job's last point is no later. Refusals, in this order:
+ * 1 to 4 (the plant file), 6, 7 to 10, 23, 11 to 17. Where `cause` has a word, its first word becomes the action, step, fact or allocation that the
+ * refusal speaks of, and 0 where there is none. Stack: 21 KB. */
 uint32_t sf_plan(uint32_t *board, size_t board_len, const uint8_t *plant, size_t plant_len, const uint8_t *offer, size_t offer_len,
                  uint32_t *cause, size_t cause_len);
 

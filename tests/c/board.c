@@ -21,14 +21,24 @@ static void expect(const char *what, uint32_t got, uint32_t want) {
 /* an exact heap block, so that a tool that watches the heap sees what goes past an end */
 static uint32_t *words(size_t n) { return (uint32_t *)malloc(n * sizeof(uint32_t)); }
 
+/* the same offer with a due time */
+static struct bytes due(struct bytes offer, uint32_t time) {
+    size_t len = offer.len;
+    offer.len = 24;
+    word(&offer, time);
+    offer.len = len;
+    return offer;
+}
+
 int main(void) {
     struct bytes plant = proving_plant();
-    struct bytes j; /* batch 0, fact 0 known, goal fact 2, steps A0 (place 0) and A1 */
+    struct bytes j; /* batch 0, fact 0 known, goal fact 2, no due time, steps A0 (place 0) and A1 */
     j.len = 0;
-    word(&j, 0), word(&j, 1), word(&j, 0), word(&j, 4), word(&j, 0), word(&j, 2), word(&j, 0), word(&j, 0), word(&j, 1);
+    word(&j, 0), word(&j, 1), word(&j, 0), word(&j, 4), word(&j, 0), word(&j, 2), word(&j, 0), word(&j, 0), word(&j, 0), word(&j, 1);
     struct bytes lacking = j; /* A1 A0 */
-    lacking.len = 24;
+    lacking.len = 28;
     word(&lacking, 1), word(&lacking, 0), word(&lacking, 0);
+    struct bytes late = due(lacking, 1001), short_of_time = due(j, 19), in_time = due(j, 900);
 
     size_t n = SF_BOARD_WORDS;
     uint32_t *board = words(n), *before = words(n), *cause = words(1);
@@ -59,6 +69,15 @@ int main(void) {
     expect("1 comes before 6", sf_plan(board, n - 1, NULL, 0, j.at, j.len, cause, 1), SF_NO_PLANT);
     expect("words after refused plans", memcmp(board, before, n * 4) != 0, 0);
     expect("1: no plant", sf_plan(board, n, NULL, 0, j.at, j.len, NULL, 0), SF_NO_PLANT);
+    *cause = 77;
+    expect("23 comes before 13", sf_plan(board, n, plant.at, plant.len, late.at, late.len, cause, 1), SF_DUE_TOO_LATE);
+    expect("no value of 23", *cause, 0);
+    expect("17: due at 19", sf_plan(board, n, plant.at, plant.len, short_of_time.at, short_of_time.len, cause, 1), SF_NO_TIMETABLE);
+    expect("words after 23 and 17", memcmp(board, before, n * 4) != 0, 0);
+    expect("plan, due at 900", sf_plan(board, n, plant.at, plant.len, in_time.at, in_time.len, cause, 1), SF_ACCEPTED);
+    expect("its due time", board[SF_JOBS_AT + SF_JOB_DUE], 900);
+    expect("the gap from the origin to its last point", board[SF_CELLS_AT + 3], SF_BIAS + 900);
+    expect("fresh again", sf_fresh(board, n, 1000, 5), SF_ACCEPTED);
     expect("plan", sf_plan(board, n, plant.at, plant.len, j.at, j.len, cause, 1), SF_ACCEPTED);
     expect("no value", *cause, 0);
     const uint32_t *job = board + SF_JOBS_AT, *line = board + SF_LINES_AT, *use = line + SF_LINE_USES;
@@ -66,6 +85,7 @@ int main(void) {
     expect("its points", job[SF_JOB_POINTS], 3);
     expect("its batch", job[SF_JOB_BATCH], 0);
     expect("its mark", job[SF_JOB_SENT], 0);
+    expect("no due time", job[SF_JOB_DUE], 0);
     expect("line 0's count", line[0], 1);
     expect("its use's point", use[SF_USE_POINT], 1);
     expect("its use's offset", use[SF_USE_OFFSET], 0);
@@ -107,6 +127,9 @@ int main(void) {
     expect("6: report of a mark of 2", sf_report(board, n, rows, 4), SF_UNSOUND);
     expect("words after 6", memcmp(board, before, n * 4) != 0, 0);
     board[SF_JOBS_AT + SF_JOB_SENT] = 1;
+    board[SF_JOBS_AT + SF_JOB_DUE] = 1001;
+    expect("6: due past the horizon", sf_retire(board, n), SF_UNSOUND);
+    board[SF_JOBS_AT + SF_JOB_DUE] = 1000;
     expect("retire", sf_retire(board, n), SF_ACCEPTED);
     expect("no job", board[SF_COUNT_AT], 0);
     expect("no use", line[0], 0);

@@ -6,6 +6,7 @@
 #include <stdlib.h>
 #include <string.h>
 
+/* an offer's header, with no due time */
 static struct bytes offer(uint32_t known, uint32_t known_false, uint32_t goal, uint32_t goal_false, uint32_t steps) {
     struct bytes b;
     b.len = 0;
@@ -15,6 +16,7 @@ static struct bytes offer(uint32_t known, uint32_t known_false, uint32_t goal, u
     word(&b, goal);
     word(&b, goal_false);
     word(&b, steps);
+    word(&b, 0);
     return b;
 }
 
@@ -69,18 +71,22 @@ int main(void) {
     expect("4: resource 16", p, j, 4);
     struct bytes o = offer(1, 0, 4, 0, 9);
     expect("7: nine steps", plant, o, 7);
-    o = j, o.len = 23;
-    expect("7: 23 bytes", plant, o, 7);
-    o = j, o.at[24] = 3;
+    o = j, o.len = 27;
+    expect("7: 27 bytes", plant, o, 7);
+    o = j, o.len = 28;
+    expect("8: no byte of a step", plant, o, 8);
+    o = j, o.at[28] = 3;
     expect("8: no such action", plant, o, 8);
-    o = j, o.len = 34;
+    o = j, o.len = 38;
     expect("8: cut off", plant, o, 8);
-    o = j, o.len = 37;
+    o = j, o.len = 41;
     expect("9: a byte left over", plant, o, 9);
     o = j, o.at[8] = 1;
     expect("10: fact 0 known both ways", plant, o, 10);
     o = j, o.at[16] = 4;
     expect("10: fact 2 both in the goal", plant, o, 10);
+    o = j, o.at[24] = o.at[25] = o.at[26] = o.at[27] = 0xff;
+    expect("a due time past every horizon", plant, o, 0);
 
     if (sf_fact_check(NULL, 0, NULL, 0) != 1) {
         failures++;

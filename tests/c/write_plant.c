@@ -213,9 +213,9 @@ static void lists(void) {
 /* The file is written at eight places of a block, since it may begin anywhere, and job J is planned on it: the windows of case a. */
 static void planned(void) {
     struct fields f = proving();
-    struct bytes j; /* batch 0, fact 0 known, goal fact 2, steps A0 (place 0) and A1 */
+    struct bytes j; /* batch 0, fact 0 known, goal fact 2, no due time, steps A0 (place 0) and A1 */
     j.len = 0;
-    word(&j, 0), word(&j, 1), word(&j, 0), word(&j, 4), word(&j, 0), word(&j, 2), word(&j, 0), word(&j, 0), word(&j, 1);
+    word(&j, 0), word(&j, 1), word(&j, 0), word(&j, 4), word(&j, 0), word(&j, 2), word(&j, 0), word(&j, 0), word(&j, 0), word(&j, 1);
     static uint32_t board[SF_BOARD_WORDS];
     for (size_t at = 0; at < 8; at++) {
         uint8_t block[136];

@@ -47,7 +47,7 @@ pub extern "C" fn sf_fresh(board: &mut [u32], horizon: u32, lead: u32) -> u32
     number(fresh(board, Settings { horizon, lead }))
 }
 
-// The first of refusals 1 to 4, 6 and 7 to 17, or the board with the offer's job. The value of the refusal goes into `cause`.
+// The first of refusals 1 to 4, 6, 7 to 10, 23 and 11 to 17, or the board with the offer's job. The value of the refusal goes into `cause`.
 #[no_mangle]
 pub extern "C" fn sf_plan(board: &mut [u32], plant: &[u8], offer: &[u8], cause: &mut [u32]) -> u32
     ensures number { λ r. ⌜ r ≡ numberOf (planned (lentBoard (now (board .entry))) (now (plant .entry)) (now (offer .entry)) .ruling) ⌝ }

@@ -3,8 +3,8 @@
 --   accepted s l      accepted: the board of the state s and the cells l
 --   settled b n s o   accepted with the cells o; refused with the number n where there are none
 --   unlessRefused r b a  a refusal r comes first, then the answer a
---   decided b d       what a draft d comes to: 14, 15, 16, 17, or the board with the job;  heard b r: the same of an offer as it was read, or 7 to 13
---   planned b p o     plan, of the plant file p and the offer o: 1 to 4, 6, 7 to 13, 14 to 16, 17, or the board with the job. That 17 and the new
+--   decided b d       what a draft d comes to: 14, 15, 16, 17, or the board with the job;  heard b r: the same of an offer as it was read, or 7 to 13 or 23
+--   planned b p o     plan, of the plant file p and the offer o: 1 to 4, 6, 7 to 10, 23, 11 to 16, 17, or the board with the job. That 17 and the new
 --                     table mean what document 01 says is demand 2 (crates/theorem_agreement/specs/Demand2)
 --   sendRules b place  the rules that set the points of the jobs to be sent to their earliest times
 --   sent b place      send: 6, 18, or the board with the jobs sent
@@ -53,7 +53,7 @@ unlessRefused (Refused c) b a = refusedWith b c
 
 -- ---- plan
 
--- (a) is in the making of the new points; 17 where the rules (b) to (e) do not agree with the table
+-- (a) is in the making of the new points; 17 where the rules (b) to (e) and of the due time do not agree with the table
 unfoldable pub decided : Board → Plain.Draft → Ruled
 decided b (Plain.Draft.stop c) = refusedWith b c
 decided b (Plain.Draft.go s m rs) =
@@ -64,7 +64,7 @@ unfoldable pub heard : Board → Reading → Ruled
 heard b (bad c) = refusedWith b c
 heard b (good o) = decided b (Plain.drafted (stateOf b) o)
 
--- "Each call makes the checks that concern it in this order": the plant file (1 to 4) before the board (6), the offer (7 to 17) after it
+-- "Each call makes the checks that concern it in this order": the plant file (1 to 4) before the board (6), the offer (7 to 17, and 23) after it
 unfoldable pub planned : Board → List ℕ → List ℕ → Ruled
 planned b p o = unlessRefused (plantRuling p) b (cond (not (sound b)) (refusal b 6) (heard b (readingOf (stateOf b) p o)))
 

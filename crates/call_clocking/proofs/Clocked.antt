@@ -45,12 +45,12 @@ unfolding notBefore
 not-before-usable n x p h b = record { early-live = omega arith; late-live = h; few-more = b; few-slack = omega arith }
 
 pub starts-usable :
-    (n p : ℕ) (js : List Job) (x : ℕ) → All SizedJob js → 0 < x → x + total js ≤ n → p ≤ 102000000 → AllUsable n (starts p x js)
+    (H n p : ℕ) (js : List Job) (x : ℕ) → All (SizedJob H) js → 0 < x → x + total js ≤ n → p ≤ 102000000 → AllUsable n (starts p x js)
 unfolding starts total
-starts-usable n p [] x a h l b = tt
-starts-usable n p (j ∷ js) x a h l b =
+starts-usable H n p [] x a h l b = tt
+starts-usable H n p (j ∷ js) x a h l b =
     let two = a .0 .least in
-    go (j .sent) (not-before-usable n x p (omega (arith, two)) b) (starts-usable n p js (x + j .points) (a .1) (omega arith) (omega arith) b)
+    go (j .sent) (not-before-usable n x p (omega (arith, two)) b) (starts-usable H n p js (x + j .points) (a .1) (omega arith) (omega arith) b)
   where
     go :
         (s : Bool) → Usable n (notBefore x p) → AllUsable n (starts p (x + j .points) js)
@@ -94,7 +94,7 @@ module _ (b : Board) (s : Sound b) where
         let h = s .horizon .1 in
         let d = s .lead in
         subst (AllUsable _) (sym rules-are)
-        (starts-usable _ (c + b .settings .lead) (jobsOf (b .jobs)) 1 (s .sizes) (omega arith) (omega arith) (omega (arith, h, d)))
+        (starts-usable (b .settings .horizon) _ (c + b .settings .lead) (jobsOf (b .jobs)) 1 (s .sizes) (omega arith) (omega arith) (omega (arith, h, d)))
 
 -- ---- the answer
 

@@ -29,6 +29,7 @@ use Rattle.spec_plain.specs.Plain.{
   total,
   liveCount,
   notBefore,
+  notAfter,
   inOrder,
   usedFrom,
   durations,
@@ -45,6 +46,8 @@ use Rattle.spec_plain.specs.Plain.{
   orElse,
   afterNewest,
   batchRules,
+  dueRules,
+  lastPoint,
 }
 use Rattle.base_lists.specs.All.{All}
 use Rattle.base_lists.proofs.All.{all-append, all-map}
@@ -72,7 +75,7 @@ overwritten-fits : (n x k : ℕ) (p : Allocation) → x + k ≤ n → SizedAlloc
 unfolding usedFrom
 overwritten-fits n x k p le s = record { point = omega (arith, s .step); offset = s .readable .offset; length = s .readable .length }
 
--- ---- rules (b), (c) and (e)
+-- ---- rules (b), (c) and (e), and of the due time
 
 durations-usable : (n x : ℕ) (ss : List Step) → x + length ss < n → All SizedStep ss → All (Usable n) (durations x ss)
 unfolding durations
@@ -101,11 +104,11 @@ orElse-one n (r ∷ rs) later a b = a
 
 -- d is the distance of rule (e)
 newest-one :
-    (n d b last x : ℕ) (js : List Job) → d ≤ 1000000 → last < n → x + total js ≤ n → All SizedJob js → One n (afterNewest d b last x js)
+    (H n d b last x : ℕ) (js : List Job) → d ≤ 1000000 → last < n → x + total js ≤ n → All (SizedJob H) js → One n (afterNewest d b last x js)
 unfolding afterNewest total
-newest-one n d b last x [] near h le jobs = (tt, omega arith)
-newest-one n d b last x (j ∷ js) near h le jobs =
-    orElse-one n (afterNewest d b last (x + j .points) js) _ (newest-one n d b last (x + j .points) js near h (omega arith) (jobs .1))
+newest-one H n d b last x [] near h le jobs = (tt, omega arith)
+newest-one H n d b last x (j ∷ js) near h le jobs =
+    orElse-one n (afterNewest d b last (x + j .points) js) _ (newest-one H n d b last (x + j .points) js near h (omega arith) (jobs .1))
     (go (eqb (jobBatch j) b))
   where
     go : (q : Bool) → One n (cond q (record { early = x + j .points - 1; more = d; late = last; slack = 0 } ∷ []) [])
@@ -116,13 +119,24 @@ newest-one n d b last x (j ∷ js) near h le jobs =
     go false = (tt, omega arith)
 
 batch-one :
-    (n d b last : ℕ) (js : List Job) → d ≤ 1000000 → last < n → 1 + total js ≤ n → All SizedJob js → One n (batchRules d b last js)
+    (H n d b last : ℕ) (js : List Job) → d ≤ 1000000 → last < n → 1 + total js ≤ n → All (SizedJob H) js → One n (batchRules d b last js)
 unfolding batchRules
-batch-one n d b last js near h le jobs = go (eqb b 0)
+batch-one H n d b last js near h le jobs = go (eqb b 0)
   where
     go : (q : Bool) → One n (cond q [] (afterNewest d b last 1 js))
     go true = (tt, omega arith)
-    go false = newest-one n d b last 1 js near h le jobs
+    go false = newest-one H n d b last 1 js near h le jobs
+
+due-one : (n q last : ℕ) → 0 < n → last < n → q ≤ 100000000 → One n (dueRules q last)
+unfolding dueRules notAfter
+due-one n q last some h le = go (eqb q 0)
+  where
+    go : (t : Bool) → One n (cond t [] (notAfter last q ∷ []))
+    go true = (tt, omega arith)
+    go false = (
+      (record { early-live = h; late-live = some; few-more = omega arith; few-slack = omega arith }, tt),
+      omega arith,
+    )
 
 -- ---- drafts
 
@@ -133,7 +147,7 @@ pub record Joins (s : State) (o : Offer) (next : State) (m : ℕ) (rs : List Rul
   -- the offer's job stands behind the others; beside jobs and lines nothing changes
   pub state : next ≡ withLines (withJobs s (s .jobs ++ (jobFrom o ∷ []))) (next .lines)
   pub usable : All (Usable (liveCount s + m)) rs
-  -- 1 by (b), 16 by (c), 64 by (d) and 1 by (e)
+  -- 1 by (b), 16 by (c), 64 by (d), 1 by (e) and 1 by the due time
   pub few : length rs ≤ mostRules
 
 unfoldable pub DraftJoins : State → Offer → Draft → Type 0
@@ -141,8 +155,8 @@ DraftJoins s o (Draft.stop c) = Unit {0}
 DraftJoins s o (Draft.go next m rs) = Joins s o next m rs
 
 module _
-    (s : State) (o : Offer) (jobs : All SizedJob (s .jobs)) (lines : All (All (Fits (liveCount s))) (s .lines))
-    (clock : s .clock + s .settings .lead ≤ 101000000) (offer : SizedOffer o)
+    (s : State) (o : Offer) (jobs : All (SizedJob (s .settings .horizon)) (s .jobs)) (lines : All (All (Fits (liveCount s))) (s .lines))
+    (top : s .settings .horizon ≤ 100000000) (clock : s .clock + s .settings .lead ≤ 101000000) (offer : SizedOffer (s .settings .horizon) o)
   where
     abbrev n : ℕ
     n = liveCount s + newPoints o
@@ -160,10 +174,13 @@ module _
     unfolding DraftJoins joining full liveCount
     joined-usable rs a few room ls =
         let roomy = neither (leb mostJobs (length (s .jobs))) (ltb mostPoints (total (s .jobs) + newPoints o)) room in
-        let last = liveCount s + length (o .steps) in
+        let last = lastPoint s o in
         let gap = trayGap (s .settings) in
-        let end = batch-one n gap (jobBatch (jobFrom o)) last (s .jobs) (omega arith) (omega arith) (omega arith) jobs in
-        let ending = batchRules gap (jobBatch (jobFrom o)) last (s .jobs) in
+        let by-batch = batchRules gap (jobBatch (jobFrom o)) last (s .jobs) in
+        let by-due = dueRules (o .due) last in
+        let behind = batch-one (s .settings .horizon) n gap (jobBatch (jobFrom o)) last (s .jobs) (omega arith) (omega arith) (omega arith) jobs in
+        let on-time = due-one n (o .due) last (omega arith) (omega arith) (omega (arith, offer .due, top)) in
+        let ending = by-batch ++ by-due in
         let lasting = durations (liveCount s) (o .steps) in
         record {
           points = refl;
@@ -173,10 +190,21 @@ module _
           usable = (
             first,
             all-append (Usable n) (lasting ++ rs) ending
-                (all-append (Usable n) lasting rs (durations-usable n (liveCount s) (o .steps) (omega arith) (offer .steps)) a) (end .0),
+                (all-append (Usable n) lasting rs (durations-usable n (liveCount s) (o .steps) (omega arith) (offer .steps)) a)
+                (all-append (Usable n) by-batch by-due (behind .0) (on-time .0)),
           );
           few =
-              omega (arith, length-append (lasting ++ rs) ending, length-append lasting rs, durations-length (liveCount s) (o .steps), offer .few, few, end .1);
+              omega (
+                arith,
+                length-append (lasting ++ rs) ending,
+                length-append lasting rs,
+                length-append by-batch by-due,
+                durations-length (liveCount s) (o .steps),
+                offer .few,
+                few,
+                behind .1,
+                on-time .1,
+              );
         }
       where
         few-jobs : leb mostJobs (length (s .jobs)) ≡ false → length (s .jobs) < mostJobs

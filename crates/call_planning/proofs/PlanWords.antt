@@ -90,7 +90,7 @@ drafted-on w good o r s es came =
 pub record Planning (w : List ℕ) (o : Offer) (r : Drafted) (n m top : ℕ) : Type 0 where
   pub size : length w ≡ boardSize
   pub is-sound : sound (boardIn w) ≡ true
-  pub sized : SizedOffer o
+  pub sized : SizedOffer (boardIn w .settings .horizon) o
   pub is-drafted : DraftedAs r (drafted (stateOf (boardIn w)) o)
   pub goes : r .ruling ≡ Accepted
   pub live : n ≡ suc (total (jobsOf (heldJobs (wordIn w))))

@@ -16,7 +16,7 @@ use Rattle.base_rulings.specs.declared.Ruling.{Ruling}
 use Rattle.base_rulings.specs.declared.Ruling.the-variants.{Accepted, Refused}
 use Rattle.base_rulings.proofs.RulingLaws.{refused-no}
 use Rattle.read_plant.specs.Plant.{plantRuling}
-use Rattle.read_offer.specs.Offer.{offerRuling, consistencyRuling, chainRuling}
+use Rattle.read_offer.specs.Offer.{dueOf, offerRuling, consistencyRuling, chainRuling}
 use Rattle.spec_plain.specs.Limits.{resources, side, mostSteps}
 use Rattle.spec_plain.specs.declared.Allocation.{Allocation}
 use Rattle.spec_plain.specs.declared.Rule.{Rule}
@@ -35,7 +35,8 @@ use Rattle.base_lists.proofs.Build.{build-length, build-at}
 use Rattle.base_lists.proofs.All.{all-at}
 use Rattle.spec_stn.specs.Table.{bias, Closed}
 use Rattle.part_gaps.specs.Cells.{tableOf, grown}
-use Rattle.spec_rulebook.specs.Reading.{Reading, offerOf, past, readingOf}
+use Rattle.spec_rulebook.specs.Reading.{Reading, offerOf, past, planCheck, readingOf}
+use Rattle.spec_rulebook.proofs.Reading.{due-within, due-past}
 use Rattle.part_offered.specs.StepArray.{stepsHeld}
 use Rattle.part_offered.specs.Sized.{SizedAllocation, SizedOffer}
 use Rattle.part_settling.specs.Settled.{AllUsable, addedAll, outcome}
@@ -72,12 +73,12 @@ module _ (b : Board) (o : Offer) (r : Drafted) (e : DraftedAs r (drafted (stateO
       go (Draft.stop d) f = ap (λ (x : Ruling). record { ruling = x; board = b }) (sym h ∙ f)
       go (Draft.go next m rs) f = absurd (refused-no c (sym h ∙ f .0))
 
-  pub going : Sound b → length (b .lines) ≡ resources → SizedOffer o → r .ruling ≡ Accepted → Going b o r
+  pub going : Sound b → length (b .lines) ≡ resources → SizedOffer (b .settings .horizon) o → r .ruling ≡ Accepted → Going b o r
   unfolding DraftedAs DraftJoins
   going s size sized h =
       let h1 = s .horizon .1 in
       go (drafted (stateOf b) o) refl e
-      (drafted-joins (stateOf b) o (s .sizes) (unfold liveCount in fitting b s size) (omega (arith, h1, s .clock, s .lead)) sized)
+      (drafted-joins (stateOf b) o (s .sizes) (unfold liveCount in fitting b s size) h1 (omega (arith, h1, s .clock, s .lead)) sized)
     where
       go : (q : Draft) → drafted (stateOf b) o ≡ q → DraftedAs r q → DraftJoins (stateOf b) o q → Going b o r
       go (Draft.stop c) is f j = absurd (refused-no c (sym f ∙ h))
@@ -134,9 +135,10 @@ module _ {b : Board} {o : Offer} {r : Drafted} (g : Going b o r) where
 
 -- ---- the offer as the code holds it
 
-module _ (o : Offer) (s : SizedOffer o) (steps : Steps) (es : steps ≡ stepsHeld (o .steps)) where
-  pub held-offer : (batch : ℕ) (ps : List Allocation) → batch ≡ o .batch → ps ≡ o .allocations → Held.heldOffer batch steps ps ≡ o
-  held-offer batch ps eb ep = rw (eb, es, ep, take-padded mostSteps noStep (o .steps) (s .few))
+module _ {H : ℕ} (o : Offer) (s : SizedOffer H o) (steps : Steps) (es : steps ≡ stepsHeld (o .steps)) where
+  pub held-offer :
+      (batch due : ℕ) (ps : List Allocation) → batch ≡ o .batch → due ≡ o .due → ps ≡ o .allocations → Held.heldOffer batch due steps ps ≡ o
+  held-offer batch due ps eb ed ep = rw (eb, ed, es, ep, take-padded mostSteps noStep (o .steps) (s .few))
 
   pub held-list : steps .count ≡ length (stepsOf steps)
   held-list = rw (es, take-padded mostSteps noStep (o .steps) (s .few))
@@ -145,7 +147,7 @@ module _ (o : Offer) (s : SizedOffer o) (steps : Steps) (es : steps ≡ stepsHel
   held-count = let n = ap (λ (x : Steps). x .count) es in (n, omega (arith, n, s .few))
 
 pub held-read :
-    (o : Offer) → SizedOffer o → (allocations : List ℕ) (n : ℕ) → allocationsSize ≤ length allocations → allocationsIn allocations n ≡ o .allocations
+    {H : ℕ} (o : Offer) → SizedOffer H o → (allocations : List ℕ) (n : ℕ) → allocationsSize ≤ length allocations → allocationsIn allocations n ≡ o .allocations
     → ReadAllocations allocations n
 held-read o s allocations n room e =
     let many : n ≡ length (o .allocations) = sym (build-length (allocationAt allocations) n) ∙ ap length e in
@@ -182,19 +184,24 @@ module _ (b : Board) (p o : List ℕ) where
     -- ---- the reading
 
     pub bad-format : (c : Cause) → offerRuling p o ≡ Refused c → refusedWith b c ≡ heard b reading
-    unfolding heard readingOf past
+    unfolding heard readingOf planCheck past
     bad-format c f = rw (e, f)
 
     module _ (f : offerRuling p o ≡ Accepted) where
       pub bad-facts : (c : Cause) → consistencyRuling o ≡ Refused c → refusedWith b c ≡ heard b reading
-      unfolding heard readingOf past
+      unfolding heard readingOf planCheck past
       bad-facts c g = rw (e, f, g)
 
       module _ (g : consistencyRuling o ≡ Accepted) where
-        pub bad-chain : (c : Cause) → chainRuling p o ≡ Refused c → refusedWith b c ≡ heard b reading
-        unfolding heard readingOf past
-        bad-chain c h = rw (e, f, g, h)
+        pub bad-due : b .settings .horizon < dueOf o → refusal b 23 ≡ heard b reading
+        unfolding heard readingOf planCheck past
+        bad-due lt = rw (e, f, g, due-past (stateOf b) o lt)
 
-        pub chain-good : chainRuling p o ≡ Accepted → decided b (drafted (stateOf b) (offerOf p o)) ≡ heard b reading
-        unfolding heard readingOf past
-        chain-good h = rw (e, f, g, h)
+        module _ (d : dueOf o ≤ b .settings .horizon) where
+          pub bad-chain : (c : Cause) → chainRuling p o ≡ Refused c → refusedWith b c ≡ heard b reading
+          unfolding heard readingOf planCheck past
+          bad-chain c h = rw (e, f, g, due-within (stateOf b) o d, h)
+
+          pub chain-good : chainRuling p o ≡ Accepted → decided b (drafted (stateOf b) (offerOf p o)) ≡ heard b reading
+          unfolding heard readingOf planCheck past
+          chain-good h = rw (e, f, g, due-within (stateOf b) o d, h)

@@ -36,8 +36,8 @@ ghost use Rattle.part_lines.specs.ArrayLists.{stepsOf, heldOffer};
 ghost use Rattle.part_allocations.specs.Allocations.{allocationsIn};
 ghost use Rattle.spec_rulebook.specs.Reading.{readingOf};
 ghost use Rattle.part_offered.specs.Sized.{SizedOffer};
-ghost use Rattle.part_boardwords.specs.Layout.{boardSize};
-ghost use Rattle.part_boardwords.specs.Words.{boardIn, lentBoard};
+ghost use Rattle.part_boardwords.specs.Layout.{horizonAt, boardSize};
+ghost use Rattle.part_boardwords.specs.Words.{wordIn, boardIn, lentBoard};
 ghost use Rattle.part_sound.specs.Sound.{sound};
 ghost use Rattle.part_allocations.specs.ReadAllocations.{ReadAllocations};
 ghost use Rattle.call_board.specs.Boards.{stateOf};
@@ -45,20 +45,28 @@ ghost use Rattle.call_board.specs.Calls.{decided, heard, planned};
 ghost use Rattle.call_board.specs.InWords.{wordsAfter};
 
 // An offer that was read, on a sound board: 14 to 17, or the words of the board with its job.
-fn plan_job(w: &mut [u32], batch: u32, steps: Steps, allocations: &[u32], many: usize) -> Ruling
+fn plan_job(
+    w: &mut [u32],
+    batch: u32,
+    due: u32,
+    steps: Steps,
+    allocations: &[u32],
+    many: usize,
+) -> Ruling
     requires { ⌜ length (now w) ≡ boardSize ⌝ }
     requires { ⌜ (sound (boardIn (now w)) ≡ true) × (steps .count ≡ length (stepsOf steps)) × (steps .count ≤ mostSteps)
-        × ReadAllocations (now allocations) many × SizedOffer (heldOffer batch steps (allocationsIn (now allocations) many)) ⌝ }
+        × ReadAllocations (now allocations) many
+        × SizedOffer (wordIn (now w) horizonAt) (heldOffer batch due steps (allocationsIn (now allocations) many)) ⌝ }
     ensures ruling { λ r. ⌜ r ≡
         decided (boardIn (now (w .entry)))
-        (drafted (stateOf (boardIn (now (w .entry)))) (heldOffer batch steps (allocationsIn (now (allocations .entry)) many))) .ruling ⌝ }
+        (drafted (stateOf (boardIn (now (w .entry)))) (heldOffer batch due steps (allocationsIn (now (allocations .entry)) many))) .ruling ⌝ }
     ensures words { λ _. ⌜ now (w .exit) ≡
         wordsAfter (now (w .entry)) (decided (boardIn (now (w .entry)))
-        (drafted (stateOf (boardIn (now (w .entry)))) (heldOffer batch steps (allocationsIn (now (allocations .entry)) many)))) ⌝ }
+        (drafted (stateOf (boardIn (now (w .entry)))) (heldOffer batch due steps (allocationsIn (now (allocations .entry)) many)))) ⌝ }
 {
     let settings = settings_in(w);
     let n = points_in(w);
-    let drafted = draft(w, settings, n, batch, steps, allocations, many);
+    let drafted = draft(w, settings, n, batch, due, steps, allocations, many);
     let ruling = drafted.ruling;
     if let Ruling::Refused(cause) = ruling {
         return Ruling::Refused(cause);
@@ -73,13 +81,13 @@ fn plan_job(w: &mut [u32], batch: u32, steps: Steps, allocations: &[u32], many: 
     ) {
         return Ruling::Refused(Cause::Plain(17));
     }
-    add_job(w, more as u32, batch);
+    add_job(w, more as u32, batch, due);
     tidy_lines(w);
     insert_all(w, n + 1, allocations, many);
     Ruling::Accepted
 }
 
-// An offer on a sound board, of a good plant file: 7 to 13, or what its job comes to.
+// An offer on a sound board, of a good plant file: 7 to 10, 23, 11 to 13, or what its job comes to.
 fn plan_offer(w: &mut [u32], plant: &[u8], end: Trailer, offer: &[u8]) -> Ruling
     requires { ⌜ length (now w) ≡ boardSize ⌝ }
     requires { ⌜ (sound (boardIn (now w)) ≡ true) × (plantRuling (now plant) ≡ Accepted) × (end ≡ trailerOf (now plant)) ⌝ }
@@ -97,6 +105,10 @@ fn plan_offer(w: &mut [u32], plant: &[u8], end: Trailer, offer: &[u8]) -> Ruling
     if let Ruling::Refused(cause) = facts {
         return Ruling::Refused(cause);
     }
+    let due = u32_at(offer, 24);
+    if w[layout::HORIZON_AT] < due {
+        return Ruling::Refused(Cause::Plain(23));
+    }
     let chain = check_chain(plant, end, offer);
     if let Ruling::Refused(cause) = chain {
         return Ruling::Refused(cause);
@@ -104,10 +116,10 @@ fn plan_offer(w: &mut [u32], plant: &[u8], end: Trailer, offer: &[u8]) -> Ruling
     let steps = read_durations(plant, end, offer);
     let mut allocations = [0u32; ALLOCATIONS_SIZE];
     let many = read_allocations(plant, end, offer, &mut allocations);
-    plan_job(w, u32_at(offer, 0), steps, &allocations, many)
+    plan_job(w, u32_at(offer, 0), due, steps, &allocations, many)
 }
 
-// The first of refusals 1 to 4, 6 and 7 to 17, or the words of the board with the offer's job.
+// The first of refusals 1 to 4, 6, 7 to 10, 23 and 11 to 17, or the words of the board with the offer's job.
 pub fn plan(w: &mut [u32], plant: &[u8], offer: &[u8]) -> Ruling
     ensures ruling { λ r. ⌜ r ≡ planned (lentBoard (now (w .entry))) (now (plant .entry)) (now (offer .entry)) .ruling ⌝ }
     ensures words { λ _. ⌜ now (w .exit) ≡ wordsAfter (now (w .entry)) (planned (lentBoard (now (w .entry))) (now (plant .entry)) (now (offer .entry))) ⌝ }

@@ -5,7 +5,7 @@
 --   after-point, after-job, row-lent   the cursor moved on, and a row, as the code gives them
 use Prim.Native.Nat.{ℕ, zero, suc, _+_, _-_, _≤_, _<_}
 use mathlib.Core.Path.{_≡_, refl, sym, _∙_, ap}
-use mathlib.Core.Bool.{Bool, true, false}
+use mathlib.Core.Bool.{Bool, true, false, _&&_}
 use mathlib.Core.List.{List, [], _∷_}
 use native.Mathlib.Omega.{arith}
 use native.Mathlib.Decide.{decLt}
@@ -20,7 +20,7 @@ use Rattle.base_lists.proofs.AllBelow.{both-true}
 use Rattle.spec_stn.specs.Table.{earliest, latest}
 use Rattle.part_gaps.specs.Cells.{tableOf}
 use Rattle.part_boardwords.specs.Layout.{countAt, boardSize}
-use Rattle.part_boardwords.specs.Words.{Words, wordIn, jobAt, heldJobs, cellsRead, boardRead}
+use Rattle.part_boardwords.specs.Words.{Words, wordIn, settingsRead, jobAt, heldJobs, cellsRead, boardRead}
 use Rattle.part_boardwords.proofs.Lent.{lentTable, cells-lent}
 use Rattle.part_boardwords.proofs.Boards.{held-jobs, held-job, job-next, job-over}
 use Rattle.part_sound.specs.Sound.{sound, allOf, sizedJob}
@@ -69,12 +69,13 @@ record Stands (w : Words) (k : ℕ) (c : Cursor) : Type 0 where
   points : x + total (drop (c .place) (jobsOf (heldJobs w))) ≡ total (jobsOf (heldJobs w))
   inside : c .place < w countAt → c .point < jobAt w (c .place) .points
 
-each-some : (js : List Job) → allOf sizedJob js ≡ true → (p : ℕ) → p < length js → 2 ≤ getD js p noJob .points
-each-some [] e p h = absurd (omega arith)
-each-some (j ∷ js) e zero h =
-    let sized = both-true (sizedJob j) (allOf sizedJob js) e .0 in
-    leb-true 2 (j .points) (both-true (leb 2 (j .points)) (leb (j .points) 9) sized .0)
-each-some (j ∷ js) e (suc p) h = each-some js (both-true (sizedJob j) (allOf sizedJob js) e .1) p (omega arith)
+each-some : (H : ℕ) (js : List Job) → allOf (sizedJob H) js ≡ true → (p : ℕ) → p < length js → 2 ≤ getD js p noJob .points
+each-some H [] e p h = absurd (omega arith)
+each-some H (j ∷ js) e zero h =
+    let sized = both-true (sizedJob H j) (allOf (sizedJob H) js) e .0 in
+    let points = both-true (leb 2 (j .points) && leb (j .points) 9) (leb (j .due) H) sized .0 in
+    leb-true 2 (j .points) (both-true (leb 2 (j .points)) (leb (j .points) 9) points .0)
+each-some H (j ∷ js) e (suc p) h = each-some H js (both-true (sizedJob H j) (allOf (sizedJob H) js) e .1) p (omega arith)
 
 module _ (w : Words) (s : sound (boardRead w) ≡ true) where
   few : w countAt ≤ mostJobs
@@ -83,7 +84,7 @@ module _ (w : Words) (s : sound (boardRead w) ≡ true) where
   -- a job on a sound board has a point
   some : (p : ℕ) → p < w countAt → 0 < jobAt w p .points
   some p h =
-      let least = each-some (jobsOf (heldJobs w)) (sound-each (boardRead w) s) p (omega (arith, held-jobs w few)) in
+      let least = each-some (settingsRead w .horizon) (jobsOf (heldJobs w)) (sound-each (boardRead w) s) p (omega (arith, held-jobs w few)) in
       omega (arith, least, ap (λ (j : Job). j .points) (held-job w few p h))
 
   stands-first : Stands w 0 (record { place = 0; point = 0 })

@@ -80,7 +80,9 @@ module _ (b : Board) where
 
     module _ (s : Sound b) where
       pub some : 1 ≤ j .points
-      some = let sizes : All SizedJob (j ∷ js) = subst (All SizedJob) q (s .sizes) in omega (arith, sizes .0 .least)
+      some =
+          let sizes : All (SizedJob (b .settings .horizon)) (j ∷ js) = subst (All (SizedJob (b .settings .horizon))) q (s .sizes) in
+          omega (arith, sizes .0 .least)
 
       pub few : 1 + j .points ≤ suc (total (jobsOf (b .jobs)))
       unfolding total

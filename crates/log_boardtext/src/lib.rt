@@ -116,13 +116,14 @@ fn put_jobs(out: &mut [u8], at: usize, w: &[u32]) -> usize
     to
 }
 
-// Puts `j POINTS BATCH SENT`.
+// Puts `j POINTS BATCH SENT DUE`.
 fn put_job(out: &mut [u8], at: usize, job: Job) -> usize {
     let head = put(out, at, b"j");
     let points = put_next(out, head, job.points);
     let batch = put_next(out, points, job.batch);
     let sent = put_next(out, batch, job.sent as u32);
-    put(out, sent, b"\n")
+    let due = put_next(out, sent, job.due);
+    put(out, due, b"\n")
 }
 
 fn put_lines(out: &mut [u8], at: usize, w: &[u32]) -> usize

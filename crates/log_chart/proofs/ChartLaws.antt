@@ -179,9 +179,9 @@ column-most k w h v = mul-le-mul h v
 -- ---- a sound board
 
 pub job-some :
-    (w : Words) → w countAt ≤ mostJobs → All SizedJob (jobsOf (heldJobs w)) → (k : ℕ) (j : Job) → k < w countAt → j ≡ jobAt w k → 1 ≤ j .points
-job-some w few all k j lt e =
-    let sized = all-at SizedJob (jobsOf (heldJobs w)) noJob all k (omega (arith, held-jobs w few)) in
+    (w : Words) (H : ℕ) → w countAt ≤ mostJobs → All (SizedJob H) (jobsOf (heldJobs w)) → (k : ℕ) (j : Job) → k < w countAt → j ≡ jobAt w k → 1 ≤ j .points
+job-some w H few all k j lt e =
+    let sized = all-at (SizedJob H) (jobsOf (heldJobs w)) noJob all k (omega (arith, held-jobs w few)) in
     let least : 2 ≤ jobAt w k .points = rw (held-job w few k lt) at (sized .least) in
     omega (arith, least, ap (λ (i : Job). i .points) e)
 

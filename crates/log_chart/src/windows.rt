@@ -1,4 +1,4 @@
-// The jobs' windows, a row for each job: its mark, whether it was sent, when it starts, when it ends, and its batch.
+// The jobs' windows, a row for each job: its mark, whether it was sent, when it starts, when it ends, its due time, and its batch.
 use crate::rows::pad;
 use crate::uses::glyph;
 use log_text::least;
@@ -16,7 +16,7 @@ ghost use Rattle.spec_plain.specs.Limits.{side, cellCount, mostJobs};
 ghost use Rattle.base_lists.specs.All.{All};
 ghost use Rattle.part_lines.specs.ArrayLists.{jobsOf};
 ghost use Rattle.part_lines.specs.Asked.{Sized};
-ghost use Rattle.part_boardwords.specs.Layout.{cellsAt};
+ghost use Rattle.part_boardwords.specs.Layout.{horizonAt, cellsAt};
 ghost use Rattle.part_boardwords.specs.Words.{wordIn, heldJobs};
 ghost use Rattle.part_sound.specs.Sound.{SizedJob};
 
@@ -26,25 +26,25 @@ const STARTS: usize = 15;
 // Puts an empty row, and one for each job. x is the first point of the next job.
 pub fn put_windows(out: &mut [u8], at: usize, t: &[u32], w: &[u32]) -> usize
     requires { ⌜ (length (now t) ≡ cellCount) × (cellsAt ≤ length (now w)) ⌝ }
-    requires { ⌜ Sized (heldJobs (wordIn (now w))) × All SizedJob (jobsOf (heldJobs (wordIn (now w)))) ⌝ }
+    requires { ⌜ Sized (heldJobs (wordIn (now w))) × All (SizedJob (wordIn (now w) horizonAt)) (jobsOf (heldJobs (wordIn (now w)))) ⌝ }
 {
     let count = w[layout::COUNT_AT] as usize;
-    let width = window_width(w[layout::HORIZON_AT]);
+    let digits = time_digits(w[layout::HORIZON_AT]);
     let mut to = put(out, at, b"\n");
     let mut x = 1;
     for k in 0..count {
         let job = job_at(w, k);
-        to = put_job(out, to, t, k, x, job, width);
+        to = put_job(out, to, t, k, x, job, digits);
         x += job.points as usize;
     }
     to
 }
 
-// How wide the widest window can be: two times that are no later than the horizon, and two dots.
-fn window_width(horizon: u32) -> usize
-    ensures { λ r. ⌜ r ≤ 22 ⌝ }
+// How many digits a time can have: none is later than the horizon.
+fn time_digits(horizon: u32) -> usize
+    ensures { λ r. ⌜ r ≤ 10 ⌝ }
 {
-    2 * least(digits(horizon), 10) + 2
+    least(digits(horizon), 10)
 }
 
 // How many digits a number has.
@@ -58,7 +58,7 @@ fn digits(n: u32) -> usize {
     count
 }
 
-// Puts the row of the job at `place`, whose first point is x.
+// Puts the row of the job at `place`, whose first point is x. The widest window is two times and two dots.
 fn put_job(
     out: &mut [u8],
     at: usize,
@@ -66,16 +66,17 @@ fn put_job(
     place: usize,
     x: usize,
     job: Job,
-    width: usize,
+    digits: usize,
 ) -> usize
-    requires { ⌜ (length (now t) ≡ cellCount) × (place ≤ mostJobs) × (1 ≤ job .points) × (x + job .points ≤ side) × (width ≤ 22) ⌝ }
+    requires { ⌜ (length (now t) ≡ cellCount) × (place ≤ mostJobs) × (1 ≤ job .points) × (x + job .points ≤ side) × (digits ≤ 10) ⌝ }
 {
     let last = x + job.points as usize - 1;
+    let width = 2 * digits + 2;
     let name = put_name(out, at, place, job);
     let starts = put_point(out, name, at, STARTS, b"starts ", t, x);
     let ends = put_point(out, starts, at, STARTS + 9 + width, b"ends ", t, last);
-    let batch = put_batch(out, ends, at, STARTS + 16 + 2 * width, job.batch);
-    put(out, batch, b"\n")
+    let terms = put_terms(out, ends, at, STARTS + 16 + 2 * width, job, digits);
+    put(out, terms, b"\n")
 }
 
 // Puts `job MARK  sent` or `job MARK  unsent`.
@@ -118,12 +119,20 @@ fn put_window(out: &mut [u8], at: usize, early: u32, late: u32) -> usize {
     put_number(out, dots, late as u64)
 }
 
-// Puts `batch BATCH` there; nothing where the job is in no batch.
-fn put_batch(out: &mut [u8], at: usize, from: usize, to: usize, batch: u32) -> usize {
-    if batch == 0 {
+// Puts `due TIME` from column `to` of the row on, and `batch BATCH` two columns behind the longest such.
+fn put_terms(out: &mut [u8], at: usize, from: usize, to: usize, job: Job, digits: usize) -> usize
+    requires { ⌜ (to ≤ 75) × (digits ≤ 10) ⌝ }
+{
+    let due = put_term(out, at, from, to, b"due ", job.due);
+    put_term(out, due, from, to + 4 + digits + 2, b"batch ", job.batch)
+}
+
+// Puts a word and a number there; nothing where the number is 0: no due time, no batch.
+fn put_term(out: &mut [u8], at: usize, from: usize, to: usize, word: &[u8], n: u32) -> usize {
+    if n == 0 {
         return at;
     }
     let begin = pad(out, at, from, to);
-    let word = put(out, begin, b"batch ");
-    put_number(out, word, batch as u64)
+    let end = put(out, begin, word);
+    put_number(out, end, n as u64)
 }

@@ -73,7 +73,7 @@ fn put_of_offer(out: &mut [u8], at: usize, n: u32) -> usize {
         7 => put(
             out,
             at,
-            b"the offer has under 24 bytes or a step count outside 1 to 8",
+            b"the offer has under 28 bytes or a step count outside 1 to 8",
         ),
         8 => put(
             out,
@@ -120,6 +120,7 @@ fn put_of_call(out: &mut [u8], at: usize, n: u32) -> usize {
             at,
             b"the list is shorter than the rows, or the buffer than the file",
         ),
+        23 => put(out, at, b"the due time is past the horizon"),
         _ => put_unknown(out, at),
     }
 }

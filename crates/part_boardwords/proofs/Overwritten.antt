@@ -1,7 +1,7 @@
 -- Laws of writing over a list.
 --   overwritten-length     the length stays
 --   overwritten-append     two lists written one behind the other
---   overwritten-three      three words stored one by one;  overwritten-last: the last of them by itself
+--   overwritten-three      three words stored one by one;  overwritten-fourth: a fourth behind them, the third known by an equation
 --   overwritten-none, overwritten-turn   a loop's start, and its turn: the words of element k behind those before it;  overwritten-line-turn: of lines
 --   overwritten-below, overwritten-from   a word outside of what is written stays
 --   overwritten-front      the front part of a list written over
@@ -43,9 +43,14 @@ overwritten-three w at a b c =
     let two : at + 2 ≡ suc (suc at) = omega arith in
     rw (one, two)
 
--- the last of three words, known by an equation
-pub overwritten-last : (w : List ℕ) (at a b m n : ℕ) (x : List ℕ) → x ≡ overwritten w at (a ∷ b ∷ m ∷ []) → m ≡ n → x ≡ overwritten w at (a ∷ b ∷ n ∷ [])
-overwritten-last w at a b m n x e s = rw (← s) e
+-- a word behind three others, of which the last is known by an equation
+pub overwritten-fourth :
+    (w : List ℕ) (at a b m n d : ℕ) (x : List ℕ) → x ≡ overwritten w at (a ∷ b ∷ m ∷ []) → m ≡ n → set x (at + 3) d ≡ overwritten w at (a ∷ b ∷ n ∷ d ∷ [])
+unfolding overwritten
+overwritten-fourth w at a b m n d x e s =
+    ap (λ (l : List ℕ). set l (at + 3) d) e
+    ∙ ap (λ (z : ℕ). set (overwritten w at (a ∷ b ∷ z ∷ [])) (at + 3) d) s
+    ∙ ap (λ (k : ℕ). set (overwritten w at (a ∷ b ∷ n ∷ [])) k d) {x = at + 3} {y = suc (suc (suc at))} (omega arith)
 
 pub length-line : (l : Line) → length (lineWords l) ≡ lineSize
 length-line l = ap suc (length-joined (λ k. useWords (getD (l .uses) k noUse)) useSize 32 (λ k. refl))

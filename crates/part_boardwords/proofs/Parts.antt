@@ -19,7 +19,7 @@ use Rattle.spec_plain.specs.declared.Use.{Use}
 use Rattle.spec_plain.specs.Plain.{sentJob, noUse}
 use Rattle.part_lines.specs.ArrayLists.{noJob}
 use Rattle.part_boardwords.specs.Board.{Board}
-use Rattle.part_boardwords.specs.Layout.{horizonAt, leadAt, clockAt, countAt, headSize, batchIn, sentIn, jobSize, offsetIn, lengthIn, useSize, jobStart}
+use Rattle.part_boardwords.specs.Layout.{horizonAt, leadAt, clockAt, countAt, headSize, batchIn, sentIn, dueIn, jobSize, offsetIn, lengthIn, useSize, jobStart}
 use Rattle.part_boardwords.specs.Words.{Words, wordIn, zeros, settingsRead, jobRead, jobAt, useRead, boardRead}
 use Rattle.part_boardwords.specs.Codec.{markOf, jobWords, useWords, headWords}
 
@@ -46,7 +46,7 @@ module _ (v w : Words) (a b : ℕ) where
   first e = ap v {x = a} {y = a + 0} (omega arith) ∙ e ∙ ap w {x = b + 0} {y = b} (omega arith)
 
   pub job-by : ((i : ℕ) → i < jobSize → v (a + i) ≡ w (b + i)) → jobRead v a ≡ jobRead w b
-  job-by same = rw (first (same 0 (omega arith)), same batchIn (omega arith), same sentIn (omega arith)) refl
+  job-by same = rw (first (same 0 (omega arith)), same batchIn (omega arith), same sentIn (omega arith), same dueIn (omega arith)) refl
 
   pub use-by : ((i : ℕ) → i < useSize → v (a + i) ≡ w (b + i)) → useRead v a ≡ useRead w b
   use-by same = rw (first (same 0 (omega arith)), same offsetIn (omega arith), same lengthIn (omega arith)) refl
@@ -70,7 +70,7 @@ use-zero v a none = use-by v zeros a 0 none
 pub job-written : (v : Words) (a : ℕ) (j : Job) → ((i : ℕ) → i < jobSize → v (a + i) ≡ getD (jobWords j) i 0) → jobRead v a ≡ j
 job-written v a j same =
     job-by v (wordIn (jobWords j)) a 0 (λ i h. same i h ∙ ap (wordIn (jobWords j)) {x = i} {y = 0 + i} (omega arith))
-    ∙ ap (λ (s : Bool). record { points = j .points; batch = j .batch; sent = s }) (mark-is (j .sent))
+    ∙ ap (λ (s : Bool). record { points = j .points; batch = j .batch; sent = s; due = j .due }) (mark-is (j .sent))
 
 pub use-written : (v : Words) (a : ℕ) (u : Use) → ((i : ℕ) → i < useSize → v (a + i) ≡ getD (useWords u) i 0) → useRead v a ≡ u
 use-written v a u same =
@@ -85,7 +85,8 @@ pub job-word : (w : Words) (a i : ℕ) → w (a + sentIn) ≤ 1 → i < jobSize 
 job-word w a zero m h = ap w {x = a} {y = a + 0} (omega arith)
 job-word w a (suc zero) m h = refl
 job-word w a (suc (suc zero)) m h = mark-back (w (a + sentIn)) m
-job-word w a (suc (suc (suc i))) m h = absurd (omega arith)
+job-word w a (suc (suc (suc zero))) m h = refl
+job-word w a (suc (suc (suc (suc i)))) m h = absurd (omega arith)
 
 pub use-word : (w : Words) (a i : ℕ) → i < useSize → getD (useWords (useRead w a)) i 0 ≡ w (a + i)
 use-word w a zero h = ap w {x = a} {y = a + 0} (omega arith)
@@ -117,4 +118,5 @@ pub job-sent :
     → jobRead v a ≡ sentJob (jobRead w a)
 job-sent v w a one same =
     let e : eqb (v (a + sentIn)) 1 ≡ true = ap (λ (m : ℕ). eqb m 1) one in
-    rw (first v w a a (same 0 (omega arith) (λ q. omega arith)), same batchIn (omega arith) (λ q. omega arith), e) refl
+    let points = first v w a a (same 0 (omega arith) (λ q. omega arith)) in
+    rw (points, same batchIn (omega arith) (λ q. omega arith), same dueIn (omega arith) (λ q. omega arith), e) refl

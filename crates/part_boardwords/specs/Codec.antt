@@ -32,7 +32,7 @@ abbrev pub markOf : Bool → ℕ
 markOf s = cond s 1 0
 
 abbrev pub jobWords : Job → List ℕ
-jobWords j = j .points ∷ j .batch ∷ markOf (j .sent) ∷ []
+jobWords j = j .points ∷ j .batch ∷ markOf (j .sent) ∷ j .due ∷ []
 
 abbrev pub useWords : Use → List ℕ
 useWords u = u .point ∷ u .offset ∷ u .length ∷ []

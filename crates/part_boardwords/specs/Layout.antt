@@ -2,7 +2,7 @@
 -- that names one of these of code that uses another is not proved. All are abbreviations: a check sees numerals, and no proof names one.
 -- A word more in the head: a line `..At` behind its neighbour, and the next one counts from it. A word more in a job or a use: the same with `..In`.
 --   horizonAt, leadAt, clockAt, countAt   the words of the head;  headSize: how many they are
---   batchIn, sentIn        batch and mark of a job, counted from its first word, the points;  jobSize: how many a job has
+--   batchIn, sentIn, dueIn batch, mark and due time of a job, counted from its first word, the points;  jobSize: how many a job has
 --   offsetIn, lengthIn     offset and length of a use, counted from its first word, the point;  useSize: how many a use has
 --   usesIn                 the uses of a line, counted from its first word, the count;  usesSize, lineSize: how many all its uses, and a line, have
 --   jobsAt, linesAt, cellsAt   the first word of the jobs, of the lines, of the cells;  jobsSize, linesSize: how many the first two have
@@ -34,8 +34,11 @@ batchIn = 1
 abbrev pub sentIn : ℕ
 sentIn = batchIn + 1
 
+abbrev pub dueIn : ℕ
+dueIn = sentIn + 1
+
 abbrev pub jobSize : ℕ
-jobSize = sentIn + 1
+jobSize = dueIn + 1
 
 abbrev pub offsetIn : ℕ
 offsetIn = 1

@@ -29,7 +29,7 @@ use Rattle.part_lines.specs.declared.Line.{Line}
 use Rattle.part_lines.specs.ArrayLists.{linesOf}
 use Rattle.base_lists.specs.Loops.{build, allBelow}
 use Rattle.part_boardwords.specs.Board.{Board}
-use Rattle.part_boardwords.specs.Layout.{horizonAt, leadAt, clockAt, countAt, batchIn, sentIn, offsetIn, lengthIn, jobSize, useSize}
+use Rattle.part_boardwords.specs.Layout.{horizonAt, leadAt, clockAt, countAt, batchIn, sentIn, dueIn, offsetIn, lengthIn, jobSize, useSize}
 use Rattle.part_boardwords.specs.Layout.{cellsAt, boardSize, jobStart, markAt, lineStart, useStart}
 
 abbrev pub Words : Type 0
@@ -52,7 +52,7 @@ settingsRead w = record { horizon = w horizonAt; lead = w leadAt }
 
 -- a mark of 1 is sent, 0 unsent; `isMarked` says that it is one of the two
 abbrev pub jobRead : Words → ℕ → Job
-jobRead w at = record { points = w at; batch = w (at + batchIn); sent = eqb (w (at + sentIn)) 1 }
+jobRead w at = record { points = w at; batch = w (at + batchIn); sent = eqb (w (at + sentIn)) 1; due = w (at + dueIn) }
 
 abbrev pub jobAt : Words → ℕ → Job
 jobAt w k = jobRead w (jobStart k)

@@ -12,12 +12,14 @@ pub const COUNT_AT: usize = CLOCK_AT + 1;
 
 pub const HEAD_SIZE: usize = COUNT_AT + 1;
 
-// A job: its points, its batch, its mark.
+// A job: its points, its batch, its mark, its due time.
 pub const BATCH_IN: usize = 1;
 
 pub const SENT_IN: usize = BATCH_IN + 1;
 
-pub const JOB_SIZE: usize = SENT_IN + 1;
+pub const DUE_IN: usize = SENT_IN + 1;
+
+pub const JOB_SIZE: usize = DUE_IN + 1;
 
 // A use: its point, its offset, its length.
 pub const OFFSET_IN: usize = 1;

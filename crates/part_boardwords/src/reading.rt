@@ -41,6 +41,7 @@ fn read_job(s: &[u32], at: usize) -> Job
         points: word(s, at),
         batch: word(s, at + layout::BATCH_IN),
         sent: word(s, at + layout::SENT_IN) == 1,
+        due: word(s, at + layout::DUE_IN),
     }
 }
 
@@ -56,7 +57,7 @@ fn jobs(s: &[u32]) -> [Job; limits::MOST_JOBS]
     requires { ⌜ cellsAt ≤ length (now s) ⌝ }
     ensures { λ r. ⌜ r ≡ jobsRead (wordIn (now (s .entry))) ⌝ }
 {
-    let mut next = [new_job(0, 0); limits::MOST_JOBS];
+    let mut next = [new_job(0, 0, 0); limits::MOST_JOBS];
     for k in 0..limits::MOST_JOBS {
         next[k] = job_at(s, k);
     }

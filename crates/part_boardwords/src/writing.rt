@@ -49,6 +49,7 @@ pub fn write_job(w: &mut [u32], k: usize, job: Job)
 {
     let at = layout::JOBS_AT + layout::JOB_SIZE * k;
     write_three(w, at, job.points, job.batch, mark(job.sent));
+    w[at + layout::DUE_IN] = job.due;
 }
 
 // Job k marked as sent.

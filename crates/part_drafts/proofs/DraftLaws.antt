@@ -17,7 +17,7 @@ use Rattle.base_rulings.specs.declared.Ruling.{Ruling}
 use Rattle.base_rulings.specs.declared.Ruling.the-variants.{Accepted, Refused}
 use Rattle.spec_plain.specs.Limits.{mostUses, mostSteps, mostAllocations}
 use Rattle.spec_plain.specs.Plain.{State, Offer, Placed, Draft, liveCount, notBefore, durations, inserted, ruleBefore, ruleAfter, usedFrom, placed, withJobs}
-use Rattle.spec_plain.specs.Plain.{withLines, trayGap, batchRules, full, newPoints, jobFrom, joining, drafted}
+use Rattle.spec_plain.specs.Plain.{withLines, trayGap, batchRules, dueRules, lastPoint, full, newPoints, jobFrom, joining, drafted}
 use Rattle.part_lines.specs.ArrayLists.{rulesOf, rulesFrom, answered}
 use Rattle.part_lines.specs.Asked.{Room}
 use Rattle.spec_plain.specs.declared.Settings.{Settings}
@@ -72,13 +72,17 @@ pub drafted-full : (s : State) (o : Offer) (n : ℕ) → n ≡ length (o .steps)
 unfolding drafted
 drafted-full s o n size e = let points : newPoints o ≡ n + 1 = omega arith in rw (points, e)
 
+-- the rules of the job's last point
+abbrev lastRules : State → Offer → ℕ → List Rule
+lastRules s o last = batchRules (trayGap (s .settings)) (o .batch) last (s .jobs) ++ dueRules (o .due) last
+
 -- the job joins, where placing came to q, and so came to ls and rs when it started with the rules (b) and (c)
 abbrev joined : State → Offer → List (List Use) → List Rule → Draft
 joined s o ls rs =
     Draft.go
     (withLines (withJobs s (s .jobs ++ (jobFrom o ∷ []))) ls)
     (newPoints o)
-    (rs ++ batchRules (trayGap (s .settings)) (o .batch) (liveCount s + length (o .steps)) (s .jobs))
+    (rs ++ lastRules s o (lastPoint s o))
 
 abbrev begun : State → Offer → ℕ → List Rule
 begun s o x = notBefore x (s .clock + s .settings .lead) ∷ durations x (o .steps)
@@ -104,8 +108,8 @@ begun-few : (x p : ℕ) (ss : List Step) → length ss ≤ 8 → length (notBefo
 begun-few x p ss h = omega (arith, length-durations x ss)
 
 module _ (x p : ℕ) (ss : List Step) (b : Rules) (few : length ss ≤ 8) (is : b ≡ rulesFrom (notBefore x p ∷ durations x ss)) where
-  pub start-room : Room (2 * mostAllocations + 1) b
-  start-room = Room-of b (notBefore x p ∷ durations x ss) (2 * mostAllocations + 1) is (omega (arith, begun-few x p ss few))
+  pub start-room : Room (2 * mostAllocations + 2) b
+  start-room = Room-of b (notBefore x p ∷ durations x ss) (2 * mostAllocations + 2) is (omega (arith, begun-few x p ss few))
 
   start-list : rulesOf b ≡ notBefore x p ∷ durations x ss
   start-list = rules-back b (notBefore x p ∷ durations x ss) is (omega (arith, begun-few x p ss few))
@@ -141,11 +145,11 @@ module _
 
   -- the parts of the answer are those of the plain machine
   pub drafted-made :
-      (R : Rules) → ruling ≡ Accepted → R ≡ rulesFrom (rulesOf made ++ batchRules (trayGap (s .settings)) (o .batch) (x + n) (s .jobs))
+      (R : Rules) → ruling ≡ Accepted → R ≡ rulesFrom (rulesOf made ++ lastRules s o (x + n))
       → DraftedAs (record { ruling = Accepted; rules = R }) (drafted s o)
   unfolding DraftedAs
   drafted-made R accepted eR =
-      let rules : ℕ → Rules = λ last. rulesFrom (rulesOf made ++ batchRules (trayGap (s .settings)) (o .batch) last (s .jobs)) in
+      let rules : ℕ → Rules = λ last. rulesFrom (rulesOf made ++ lastRules s o last) in
       subst (DraftedAs (record { ruling = Accepted; rules = R })) (sym (drafted-go accepted)) (
         refl,
         eR ∙ ap (λ (i : ℕ). rules (i + n)) first ∙ ap (λ (i : ℕ). rules (liveCount s + i)) size,

@@ -5,7 +5,7 @@
 use Prim.Native.Nat.{ℕ, suc, _+_, _-_, _≤_, _<_, _*_}
 use mathlib.Core.Path.{_≡_, refl, sym, _∙_, ap}
 use mathlib.Core.Bool.{Bool, true, false, cond}
-use mathlib.Core.List.{List, [], _∷_, _++_, append-assoc}
+use mathlib.Core.List.{List, [], _∷_, _++_}
 use lib.Dec.{ltb, leb}
 use lib.ListN.{length, getD, set, drop}
 use native.Mathlib.Omega.{arith}
@@ -23,12 +23,12 @@ use Rattle.spec_plain.specs.declared.Allocation.{Allocation}
 use Rattle.spec_plain.specs.declared.Rule.{Rule}
 use Rattle.part_lines.specs.declared.rulelist.Maybe.{Maybe}
 use Rattle.part_lines.specs.declared.rulelist.Rules.{Rules}
-use Rattle.part_lines.specs.ArrayLists.{rulesOf, maybeFrom, answered}
+use Rattle.part_lines.specs.ArrayLists.{rulesOf, maybeFrom, storing, answered}
 use Rattle.part_lines.specs.Asked.{Room}
 use Rattle.part_lines.specs.Placing.{lineFor, linesWith, AllFit}
 use Rattle.part_lines.proofs.Placing.{placed-done}
-use Rattle.part_lines.proofs.RuleLaws.{Room-less, added, stored, before-few, after-few}
-use Rattle.part_drafts.specs.PlacedAs.{Reached, answerOf, storing, Outcome, PlacedAs}
+use Rattle.part_lines.proofs.RuleLaws.{Room-less, both-stored, before-few, after-few}
+use Rattle.part_drafts.specs.PlacedAs.{Reached, answerOf, Outcome, PlacedAs}
 use Rattle.part_drafts.specs.declared.placing.Placement.{Placement}
 
 -- ---- the plain machine's first step
@@ -52,17 +52,6 @@ module _ (s : Settings) (x i : ℕ) (p : Allocation) (ps : List Allocation) (ls 
   placed-on h room = rw (e, le-ltb (length l) (p .place) h, lt-leb mostUses (length l) room)
 
 -- ---- one allocation
-
--- both stored behind the others: what is held, and the room that is left
-both-stored :
-    {q : Rules} (n : ℕ) (b a : Maybe) (bs cs : List Rule) → Room (2 + n) q → b ≡ maybeFrom bs → length bs ≤ 1 → a ≡ maybeFrom cs
-    → length cs ≤ 1 → Room n (storing (storing q b) a) × (rulesOf (storing (storing q b) a) ≡ rulesOf q ++ (bs ++ cs))
-both-stored {q = q} n b a bs cs room eb fb ea fa =
-    let one = stored q b bs (Room-less room 1 (omega arith)) eb fb in
-    let first = added room (storing q b) bs 1 (1 + n) one fb (omega arith) in
-    let two = stored (storing q b) a cs (Room-less (first .0) 1 (omega arith)) ea fa in
-    let second = added (first .0) (storing (storing q b) a) cs 1 n two fa (omega arith) in
-    (second .0, second .1 ∙ ap (λ (rs : List Rule). rs ++ cs) (first .1) ∙ append-assoc (rulesOf q) bs cs)
 
 module _ (s : Settings) (x i : ℕ) (p : Allocation) (ls : List (List Use)) where
   pub turn-stops :
@@ -131,8 +120,8 @@ pub record Going (s : Settings) (x : ℕ) (ps : List Allocation) (start now : Re
   -- the whole run is the rest of the run, from here
   pub runs :
       placed s x 0 ps (start .lines) (rulesOf (start .rules)) ≡ placed s x k (drop k ps) (now .lines) (rulesOf (now .rules))
-  -- two rules for each that is left, and one more for rule (e)
-  pub room : Room (2 * mostAllocations + 1 - (k + k)) (now .rules)
+  -- two rules for each that is left, and two more: for rule (e) and for the due time
+  pub room : Room (2 * mostAllocations + 2 - (k + k)) (now .rules)
 
 module _
     {s : Settings} {x k : ℕ} {ps : List Allocation} {start now : Reached} (G : Going s x ps start now k) (p : Allocation) (r : Reached)
@@ -162,7 +151,7 @@ module _
             ∙ ap (λ (q : Placed). andThen q (placed s x (suc k) (drop (k + 1) ps))) (answer-by Accepted e)
             ∙ ap (λ (i : ℕ). placed s x i (drop (k + 1) ps) (r .lines) (rulesOf (r .rules))) (sym (add-one k))
             ∙ ap (λ (l : List (List Use)). placed s x (k + 1) (drop (k + 1) ps) l (rulesOf (r .rules))) same;
-        room = out .1 (2 * mostAllocations + 1 - (k + 1 + (k + 1))) (Room-less (G .room) (2 + (2 * mostAllocations + 1 - (k + 1 + (k + 1)))) (omega arith));
+        room = out .1 (2 * mostAllocations + 2 - (k + 1 + (k + 1))) (Room-less (G .room) (2 + (2 * mostAllocations + 2 - (k + 1 + (k + 1)))) (omega arith));
       }
 
   pub stops-here : (c : Cause) → r .ruling ≡ Refused c → placed s x 0 ps (start .lines) (rulesOf (start .rules)) ≡ Placed.stop c

@@ -1,20 +1,17 @@
 -- One allocation placed.
 --   Reached             how far placing came: its ruling, the lines, the rules;  answerOf r: that as the plain machine's answer
---   storing q m         the rules q with a rule or none stored behind them
 --   Outcome q r p       how it went to r from the rules q, where the plain machine says p
 --   PlacedAs s x i allocation ls t  the turn t of allocation i, on the lines ls, ruled and made rules as the plain machine does
 use Prim.Native.Nat.{ℕ, _+_, _≤_}
 use mathlib.Core.Path.{_≡_}
 use mathlib.Core.List.{List, [], _∷_}
-use lib.ListN.{set}
 use Rattle.base_rulings.specs.declared.Ruling.{Ruling}
 use Rattle.spec_plain.specs.declared.Settings.{Settings}
 use Rattle.spec_plain.specs.declared.Allocation.{Allocation}
 use Rattle.spec_plain.specs.declared.Use.{Use}
 use Rattle.spec_plain.specs.Plain.{Placed, placed}
 use Rattle.part_lines.specs.declared.rulelist.Rules.{Rules}
-use Rattle.part_lines.specs.declared.rulelist.Maybe.{Maybe}
-use Rattle.part_lines.specs.ArrayLists.{rulesOf, answered}
+use Rattle.part_lines.specs.ArrayLists.{rulesOf, storing, answered}
 use Rattle.part_lines.specs.Asked.{Room}
 use Rattle.part_lines.specs.Placing.{linesWith}
 use Rattle.part_drafts.specs.declared.placing.Placement.{Placement}
@@ -26,9 +23,6 @@ pub record Reached : Type 0 where
 
 abbrev pub answerOf : Reached → Placed
 answerOf r = answered (r .ruling) (r .lines) (rulesOf (r .rules))
-
-abbrev pub storing : Rules → Maybe → Rules
-storing q m = record { count = q .count + m .count; rules = set (q .rules) (q .count) (m .rule) }
 
 abbrev pub Outcome : Rules → Reached → Placed → Type 0
 Outcome q r p = (answerOf r ≡ p) × ((n : ℕ) → Room (2 + n) q → Room n (r .rules))

@@ -1,4 +1,4 @@
-// What an offer comes to before timetables are looked at: a refusal, or the rules (b) to (e).
+// What an offer comes to before timetables are looked at: a refusal, or the rules (b) to (e) and of its due time.
 ghost use mathlib.Core.Path.{_≡_};
 ghost use mathlib.Core.List.{_∷_};
 ghost use Prim.Native.Nat.{_≤_};
@@ -17,7 +17,7 @@ use crate::placing::place_all;
 use base_rulings::Cause;
 use base_rulings::Ruling;
 use part_boardwords::layout;
-use part_jobwords::add_batch;
+use part_jobwords::add_last_rules;
 use part_jobwords::is_full;
 use part_lines::Rules;
 use part_lines::Steps;
@@ -52,12 +52,14 @@ fn refused(cause: Cause) -> Drafted
     }
 }
 
-// What an offer that was read comes to, on a board of n points beside the origin: 14, 15 or 16, or the rules (b) to (e) in this order.
+// What an offer that was read comes to, on a board of n points beside the origin: 14, 15 or 16, or the rules (b) to (e) and of
+// its due time in this order.
 pub fn draft(
     w: &[u32],
     settings: Settings,
     n: u32,
     batch: u32,
+    due: u32,
     steps: Steps,
     allocations: &[u32],
     many: usize,
@@ -67,7 +69,7 @@ pub fn draft(
         × (wordIn (now w) clockAt ≤ 100000000) × (settings .lead ≤ 1000000) ⌝ }
     requires { ⌜ Lined (linesRead (wordIn (now w))) × (steps .count ≤ mostSteps) × ReadAllocations (now allocations) many ⌝ }
     ensures { λ r. ⌜ DraftedAs r
-        (drafted (withSettings (stateOf (boardIn (now (w .entry)))) settings) (heldOffer batch steps (allocationsIn (now (allocations .entry)) many))) ⌝ }
+        (drafted (withSettings (stateOf (boardIn (now (w .entry)))) settings) (heldOffer batch due steps (allocationsIn (now (allocations .entry)) many))) ⌝ }
 {
     let count = steps.count as u32;
     if is_full(w, n, count + 1) {
@@ -81,7 +83,7 @@ pub fn draft(
         return refused(cause);
     }
     let placed = placing.rules;
-    let rules = add_batch(placed, w, settings, batch, first + count);
+    let rules = add_last_rules(placed, w, settings, batch, due, first + count);
     Drafted {
         ruling: Ruling::Accepted,
         rules,

@@ -141,10 +141,10 @@ pub fn place_all(
     rules: Rules,
 ) -> Placing
     requires { ⌜ (cellsAt ≤ length (now w)) × Lined (linesRead (wordIn (now w))) × ReadAllocations (now allocations) many × (first ≤ mostPoints)
-        × Room (2 * mostAllocations + 1) rules ⌝ }
+        × Room (2 * mostAllocations + 2) rules ⌝ }
     ensures answer { λ r. ⌜ answered (r .ruling) (allWith first (linesIn (now (w .entry))) (allocationsIn (now (allocations .entry)) many)) (rulesOf (r .rules))
         ≡ placed settings first 0 (allocationsIn (now (allocations .entry)) many) (linesIn (now (w .entry))) (rulesOf rules) ⌝ }
-    ensures room { λ r. ⌜ Room 1 (r .rules) ⌝ }
+    ensures room { λ r. ⌜ Room 2 (r .rules) ⌝ }
 {
     let mut made = rules;
     for k in 0..many {

@@ -30,14 +30,14 @@ pub fn write_clock(w: &mut [u32], clock: u32)
 }
 
 // The jobs with one more, the newest and unsent.
-pub fn add_job(w: &mut [u32], points: u32, batch: u32)
+pub fn add_job(w: &mut [u32], points: u32, batch: u32, due: u32)
     requires { ⌜ (cellsAt ≤ length (now w)) × (wordIn (now w) countAt < mostJobs) × (allMarked (wordIn (now w)) ≡ true) ⌝ }
     ensures { λ _. ⌜ now (w .exit) ≡ fronted (now (w .entry)) (wordIn (now (w .entry)) clockAt)
-        (jobsFrom (jobsOf (heldJobs (wordIn (now (w .entry)))) ++ (newJob points batch ∷ []))) ⌝ }
+        (jobsFrom (jobsOf (heldJobs (wordIn (now (w .entry)))) ++ (newJob points batch due ∷ []))) ⌝ }
 {
     let count = w[layout::COUNT_AT] as usize;
     let next = count + 1;
-    write_job(w, count, new_job(points, batch));
+    write_job(w, count, new_job(points, batch, due));
     w[layout::COUNT_AT] = next as u32;
     clear_jobs(w, next);
 }

@@ -7,7 +7,7 @@ pub use changing::add_job;
 pub use changing::drop_oldest;
 pub use changing::mark_sent;
 pub use changing::write_clock;
-pub use reading::add_batch;
+pub use reading::add_last_rules;
 pub use reading::is_full;
 pub use reading::points_in;
 pub use reading::start_rules;

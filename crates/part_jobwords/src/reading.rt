@@ -4,6 +4,7 @@ use part_boardwords::job_at;
 use part_boardwords::layout;
 use part_lines::Maybe;
 use part_lines::Rules;
+use part_lines::due_rule;
 use part_lines::no_rule;
 use part_lines::no_rules;
 use part_lines::not_before;
@@ -19,7 +20,7 @@ ghost use Prim.Native.Nat.{ℕ, _≤_};
 ghost use lib.Dec.{eqb};
 ghost use lib.ListN.{length};
 ghost use Rattle.spec_plain.specs.Limits.{mostJobs, mostPoints};
-ghost use Rattle.spec_plain.specs.Plain.{State, total, full, trayGap, notBefore, afterNewest, batchRules, starts};
+ghost use Rattle.spec_plain.specs.Plain.{State, total, full, trayGap, notBefore, afterNewest, batchRules, dueRules, starts};
 ghost use Rattle.part_lines.specs.ArrayLists.{jobsOf, rulesOf, rulesFrom, maybeFrom, endRule};
 ghost use Rattle.part_lines.specs.Asked.{Sized, Room};
 ghost use Rattle.base_lists.specs.All.{All};
@@ -111,18 +112,30 @@ fn batch_rule(w: &[u32], d: u32, batch: u32, last: u32) -> Maybe
     })
 }
 
-// The rules with the rule (e) behind them.
-pub fn add_batch(rules: Rules, w: &[u32], settings: Settings, batch: u32, last: u32) -> Rules
-    requires { ⌜ Room 1 rules × (cellsAt ≤ length (now w)) × Sized (heldJobs (wordIn (now w))) ⌝ }
-    ensures { λ r. ⌜ r ≡ rulesFrom (rulesOf rules ++ batchRules (trayGap settings) batch last (jobsOf (heldJobs (wordIn (now (w .entry)))))) ⌝ }
+// The rules with those of a job's last point behind them: the rule (e), and that of its due time.
+pub fn add_last_rules(
+    rules: Rules,
+    w: &[u32],
+    settings: Settings,
+    batch: u32,
+    due: u32,
+    last: u32,
+) -> Rules
+    requires { ⌜ Room 2 rules × (cellsAt ≤ length (now w)) × Sized (heldJobs (wordIn (now w))) ⌝ }
+    ensures { λ r. ⌜ r ≡ rulesFrom (rulesOf rules
+        ++ (batchRules (trayGap settings) batch last (jobsOf (heldJobs (wordIn (now (w .entry))))) ++ dueRules due last)) ⌝ }
 {
-    let made = batch_rule(w, tray_gap(settings), batch, last);
-    let rule = made.rule;
-    let mut next = rules;
-    let at = next.count;
-    next.rules[at] = rule;
-    next.count = at + made.count;
-    next
+    let by_batch = batch_rule(w, tray_gap(settings), batch, last);
+    let by_due = due_rule(due, last);
+    let one = by_batch.rule;
+    let two = by_due.rule;
+    let mut all = rules;
+    let at = all.count;
+    let next = at + by_batch.count;
+    all.rules[at] = one;
+    all.rules[next] = two;
+    all.count = next + by_due.count;
+    all
 }
 
 // The rule of the clock for a job whose first point is x. A sent job has none.

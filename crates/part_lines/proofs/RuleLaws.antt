@@ -3,13 +3,14 @@
 --   Room-of             rules that hold a short list have room;  Room-less: and so for less
 --   added               after more rules: what is held, and the room that is left
 --   unchanged           no rule put behind
---   pushed              one more rule stored;  first-pushed: the first one;  stored: one or none;  stored-two: two
+--   pushed              one more rule stored;  first-pushed: the first one;  stored: one or none;  both-stored: that twice;  stored-two: two
 --   Growing, grows, grown   a loop that puts rules behind: what is held and what is to come are all that is wanted
 --   before-none, before-at, after-none, after-at   (d): the rules with the neighbours of a place;  before-few, after-few: at most one each
 --   durations-least, durations-most, durations-stored   (c): the rules of one step
 --   durations-next      the rules of a first step, and then of the others;  durations-two: two for each step
 --   starts-next         clock: the rules of a first job, and then of the others;  startRule, starts-one: of one job
 --   newest-*            (e): the search for the newest job of a batch, from the front;  search-from, end-at, end-none, batch-*: what it comes to
+--   due-none, due-some, due-few   the rule of a due time
 use Prim.Native.Nat.{ℕ, zero, suc, _+_, _-_, _≤_, _<_}
 use mathlib.Core.Path.{_≡_, refl, sym, _∙_, ap}
 use mathlib.Core.Bool.{Bool, true, false, cond}
@@ -18,8 +19,8 @@ use lib.Dec.{eqb, ltb}
 use lib.ListN.{length, getD, set, length-append}
 use native.Mathlib.Omega.{arith}
 use borrow.Author.Tests.{lt-ltb, le-ltb, eq-eqb, ne-eqb}
-use Rattle.spec_plain.specs.Plain.{inOrder, noUse, ruleBefore, ruleAfter, durations, orElse, afterNewest, batchRules, notBefore, starts}
-use Rattle.part_lines.specs.ArrayLists.{rulesOf, rulesFrom, maybeFrom, noRule, endRule, mostRules}
+use Rattle.spec_plain.specs.Plain.{inOrder, noUse, ruleBefore, ruleAfter, durations, orElse, afterNewest, batchRules, notBefore, notAfter, dueRules, starts}
+use Rattle.part_lines.specs.ArrayLists.{rulesOf, rulesFrom, maybeFrom, storing, noRule, endRule, mostRules}
 use Rattle.part_lines.specs.Asked.{Room}
 use Rattle.spec_plain.specs.declared.Job.{Job}
 use Rattle.spec_plain.specs.declared.Settings.{Settings}
@@ -74,15 +75,22 @@ pushed q x room =
 -- one rule or none stored behind the others
 pub stored :
     (q : Rules) (m : Maybe) (more : List Rule) → Room 1 q → m ≡ maybeFrom more → length more ≤ 1
-    → _≡_ {A = Rules} (record { count = q .count + m .count; rules = set (q .rules) (q .count) (m .rule) }) (rulesFrom (rulesOf q ++ more))
+    → storing q m ≡ rulesFrom (rulesOf q ++ more)
 stored q m more room e few =
     let l : List Rule = rulesOf q in
     let short : length l < mostRules = omega (arith, held-count room, room .fits) in
-    ap (λ (y : Maybe). one q y) e ∙ ap (λ (r : Rules). one r (maybeFrom more)) (room .tidy)
-    ∙ cc (padded-one mostRules noRule l more short few, length-append l more)
-  where
-    one : Rules → Maybe → Rules
-    one r y = record { count = r .count + y .count; rules = set (r .rules) (r .count) (y .rule) }
+    ap (storing q) e ∙ ap (λ (r : Rules). storing r (maybeFrom more)) (room .tidy) ∙ cc (padded-one mostRules noRule l more short few, length-append l more)
+
+-- two times one rule or none: what is held, and the room that is left
+pub both-stored :
+    {q : Rules} (n : ℕ) (b a : Maybe) (bs cs : List Rule) → Room (2 + n) q → b ≡ maybeFrom bs → length bs ≤ 1 → a ≡ maybeFrom cs
+    → length cs ≤ 1 → Room n (storing (storing q b) a) × (rulesOf (storing (storing q b) a) ≡ rulesOf q ++ (bs ++ cs))
+both-stored {q = q} n b a bs cs room eb fb ea fa =
+    let one = stored q b bs (Room-less room 1 (omega arith)) eb fb in
+    let first = added room (storing q b) bs 1 (1 + n) one fb (omega arith) in
+    let two = stored (storing q b) a cs (Room-less (first .0) 1 (omega arith)) ea fa in
+    let second = added (first .0) (storing (storing q b) a) cs 1 n two fa (omega arith) in
+    (second .0, second .1 ∙ ap (λ (rs : List Rule). rs ++ cs) (first .1) ∙ append-assoc (rulesOf q) bs cs)
 
 -- two rules stored behind the others
 pub stored-two :
@@ -288,3 +296,21 @@ batch-few d b last js = few (eqb b 0)
     few : (t : Bool) → length (cond t [] (afterNewest d b last 1 js)) ≤ 1
     few true = omega arith
     few false = newest-few d b last 1 js
+
+-- ---- a due time
+
+pub due-none : (q last : ℕ) → q ≡ 0 → [] ≡ dueRules q last
+unfolding dueRules
+due-none q last e = rw (eq-eqb q 0 e)
+
+pub due-some : (q last : ℕ) → (q ≡ 0 → ⊥) → notAfter last q ∷ [] ≡ dueRules q last
+unfolding dueRules
+due-some q last ne = rw (ne-eqb q 0 ne)
+
+pub due-few : (q last : ℕ) → length (dueRules q last) ≤ 1
+unfolding dueRules
+due-few q last = few (eqb q 0)
+  where
+    few : (b : Bool) → length (cond b [] (notAfter last q ∷ [])) ≤ 1
+    few true = omega arith
+    few false = omega arith

@@ -4,15 +4,16 @@
 --   jobsFrom, lineFrom, linesFrom, rulesFrom            the list laid into an array, 0 in every place not in use
 --   maybeFrom rs                                        a list of one rule or none
 --   mostRules                                           the most rules that one call makes: a plan makes 1 by rule (b), two for each step by (c), two for
---                                                       each allocation by (d), and 1 by (e)
+--                                                       each allocation by (d), 1 by (e) and 1 by its due time
 --   noJob, noRule, noStep, noLine                       what a place not in use holds; `noUse` is the plain machine's
+--   storing q m                                         the rules q with a rule or none stored behind them
 -- Answers of the code as answers of the plain machine:
 --   endRule d last e   rule (e) with a job whose last point is e - 1; none where e is 0
 --   answered c ls rs   what placing came to, by its ruling: the lines and rules are left out where it is a refusal
 --   heldOffer          what was read of an offer as an offer
 use Prim.Native.Nat.{ℕ, zero, suc, _+_, _*_}
 use mathlib.Core.List.{List, [], _∷_, map}
-use lib.ListN.{length, getD, take}
+use lib.ListN.{length, getD, set, take}
 use Rattle.base_rulings.specs.declared.Ruling.{Ruling}
 use Rattle.base_rulings.specs.declared.Ruling.the-variants.{Accepted, Refused}
 use Rattle.part_lines.specs.Padded.{padded}
@@ -30,7 +31,7 @@ use Rattle.part_lines.specs.declared.Steps.{Steps}
 use Rattle.part_lines.specs.declared.rulelist.Maybe.{Maybe}
 
 abbrev pub noJob : Job
-noJob = newJob 0 0
+noJob = newJob 0 0 0
 
 abbrev pub noRule : Rule
 noRule = record { early = 0; more = 0; late = 0; slack = 0 }
@@ -43,7 +44,7 @@ abbrev pub noLine : Line
 noLine = record { count = 0; uses = [] }
 
 abbrev pub mostRules : ℕ
-mostRules = 1 + 2 * mostSteps + 2 * mostAllocations + 1
+mostRules = 1 + 2 * mostSteps + 2 * mostAllocations + 2
 
 abbrev pub jobsOf : Jobs → List Job
 jobsOf j = take (j .count) (j .jobs)
@@ -72,6 +73,9 @@ rulesFrom rs = record { count = length rs; rules = padded mostRules noRule rs }
 abbrev pub maybeFrom : List Rule → Maybe
 maybeFrom rs = record { count = length rs; rule = getD rs 0 noRule }
 
+abbrev pub storing : Rules → Maybe → Rules
+storing q m = record { count = q .count + m .count; rules = set (q .rules) (q .count) (m .rule) }
+
 abbrev pub stepsOf : Steps → List Step
 stepsOf s = take (s .count) (s .steps)
 
@@ -83,5 +87,5 @@ unfoldable pub answered : Ruling → List (List Use) → List Rule → Placed
 answered Accepted ls rs = Placed.done ls rs
 answered (Refused c) ls rs = Placed.stop c
 
-abbrev pub heldOffer : ℕ → Steps → List Allocation → Offer
-heldOffer batch steps allocations = record { batch = batch; steps = stepsOf steps; allocations = allocations }
+abbrev pub heldOffer : ℕ → ℕ → Steps → List Allocation → Offer
+heldOffer batch due steps allocations = record { batch = batch; due = due; steps = stepsOf steps; allocations = allocations }

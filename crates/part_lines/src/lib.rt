@@ -14,6 +14,7 @@ pub use rulelist::MOST_RULES;
 pub use rulelist::Maybe;
 pub use rulelist::Rules;
 pub use rulelist::add_durations;
+pub use rulelist::due_rule;
 pub use rulelist::end_of;
 pub use rulelist::in_order;
 pub use rulelist::no_rule;

@@ -1,11 +1,11 @@
-// The list of rules: how rules are put behind those that are there, and the rules (b), (c) and (d). Those that the jobs under way make stand in
-// the crate part_jobwords.
+// The list of rules: how rules are put behind those that are there, and the rules (b), (c) and (d) and of a due time. Those that the jobs under way
+// make stand in the crate part_jobwords.
 ghost use mathlib.Core.Path.{_≡_};
 ghost use mathlib.Core.List.{[], _∷_, _++_};
 ghost use Prim.Native.Nat.{_+_, _*_, _≤_};
 ghost use lib.ListN.{getD};
 ghost use Rattle.spec_plain.specs.Limits.{mostPoints, mostSteps};
-ghost use Rattle.spec_plain.specs.Plain.{endOf, trayGap, notBefore, inOrder, durations};
+ghost use Rattle.spec_plain.specs.Plain.{endOf, trayGap, notBefore, notAfter, inOrder, durations, dueRules};
 ghost use Rattle.part_lines.specs.ArrayLists.{stepsOf, rulesOf, rulesFrom, maybeFrom, noRule};
 ghost use Rattle.part_lines.specs.Asked.{Short, Room};
 use crate::Steps;
@@ -15,8 +15,9 @@ use spec_plain::Step;
 use spec_plain::Use;
 use spec_plain::limits;
 
-// A plan makes at most 1 rule by (b), two for each step by (c), two for each allocation by (d), and 1 by (e). Other calls make fewer.
-pub const MOST_RULES: usize = 1 + 2 * limits::MOST_STEPS + 2 * limits::MOST_ALLOCATIONS + 1;
+// A plan makes at most 1 rule by (b), two for each step by (c), two for each allocation by (d), 1 by (e) and 1 by its due time. Other calls make
+// fewer.
+pub const MOST_RULES: usize = 1 + 2 * limits::MOST_STEPS + 2 * limits::MOST_ALLOCATIONS + 2;
 
 // The rules that one call makes.
 pub struct Rules {
@@ -85,6 +86,28 @@ pub fn not_before(x: u32, time: u32) -> Rule
         late: x,
         slack: 0,
     }
+}
+
+// The point x is at `time` or earlier.
+fn not_after(x: u32, time: u32) -> Rule
+    ensures { λ r. ⌜ r ≡ notAfter x time ⌝ }
+{
+    Rule {
+        early: x,
+        more: 0,
+        late: 0,
+        slack: time,
+    }
+}
+
+// The rule of a due time, if there is one: the job's last point is no later.
+pub fn due_rule(due: u32, last: u32) -> Maybe
+    ensures { λ r. ⌜ r ≡ maybeFrom (dueRules due last) ⌝ }
+{
+    if due == 0 {
+        return no_rule();
+    }
+    one_rule(not_after(last, due))
 }
 
 // How long after its point a use ends.

@@ -1,5 +1,5 @@
 -- The numbers of an offer that was read from a good plant file are in range. Assumes nothing.
---   step-sized, allocation-sized   a step, an allocation;  offer-sized: the offer;  checked-sized: one that passes the fact check
+--   step-sized, allocation-sized   a step, an allocation;  offer-sized: the offer;  checked-sized: one that passes a plan's tests
 use Prim.Native.Nat.{ℕ, zero, suc, _+_, _*_, _≤_, _<_}
 use native.Mathlib.Omega.{arith}
 use mathlib.Core.Path.{_≡_}
@@ -12,11 +12,13 @@ use Rattle.base_rulings.proofs.RulingLaws.{both-passed}
 use Rattle.read_plant.specs.Plant.{plantRuling, trailerOf, badAction, allocationCount}
 use Rattle.read_plant.proofs.Good.{good}
 use Rattle.read_plant.proofs.Ranges.{duration-range, allocation-range}
-use Rattle.read_offer.specs.Offer.{stepCount, stepStart, offerRuling, factCheck}
+use Rattle.read_offer.specs.Offer.{dueOf, stepCount, stepStart, offerRuling, factCheck}
 use Rattle.read_offer.proofs.Steps.{read-of}
 use Rattle.base_lists.specs.All.{All}
 use Rattle.base_lists.proofs.All.{all-append}
-use Rattle.spec_rulebook.specs.Reading.{recordOf, stepOf, allocationOf, stepsFrom, allocationsOfStep, allocationsFrom, offerOf}
+use Rattle.spec_plain.specs.Plain.{State}
+use Rattle.spec_rulebook.specs.Reading.{recordOf, stepOf, allocationOf, stepsFrom, allocationsOfStep, allocationsFrom, offerOf, planCheck}
+use Rattle.spec_rulebook.proofs.Reading.{checked}
 use Rattle.part_offered.specs.Sized.{SizedStep, SizedAllocation, SizedOffer}
 use Rattle.part_offered.proofs.StepLaws.{length-steps, length-step-allocations}
 
@@ -71,14 +73,16 @@ module _ (p o : List ℕ) (ok : plantRuling p ≡ Accepted) (read : offerRuling 
         omega (arith, size, length-step-allocations p o k 0 here, few-allocations k (omega arith), rest .1),
       )
 
-  pub offer-sized : SizedOffer (offerOf p o)
+  -- on a board of the horizon H
+  pub offer-sized : (H : ℕ) → dueOf o ≤ H → SizedOffer H (offerOf p o)
   unfolding offerOf
-  offer-sized =
+  offer-sized H due =
       let n = stepCount o in
       let size = length-steps p o 0 n in
       let r = read-of p o read in
       let allocations = puts-sized n 0 (omega arith) in
       record {
+        due = due;
         some = omega (arith, size, r .some);
         few = omega (arith, size, r .few);
         steps = steps-sized n 0 (omega arith);
@@ -86,9 +90,10 @@ module _ (p o : List ℕ) (ok : plantRuling p ≡ Accepted) (read : offerRuling 
         count = omega (arith, allocations .1, r .few);
       }
 
--- the fact check passes 1 to 4 and 7 to 9 on its way
-pub checked-sized : (p o : List ℕ) → factCheck p o ≡ Accepted → SizedOffer (offerOf p o)
+-- a plan's tests pass 1 to 4, 7 to 9 and 23 on their way
+pub checked-sized : (s : State) (p o : List ℕ) → planCheck s p o ≡ Accepted → SizedOffer (s .settings .horizon) (offerOf p o)
 unfolding factCheck
-checked-sized p o e =
-    let first = both-passed (plantRuling p) _ e in
-    offer-sized p o (first .0) (both-passed (offerRuling p o) _ (first .1) .0)
+checked-sized s p o e =
+    let both = checked s p o e in
+    let first = both-passed (plantRuling p) _ (both .0) in
+    offer-sized p o (first .0) (both-passed (offerRuling p o) _ (first .1) .0) (s .settings .horizon) (both .1)

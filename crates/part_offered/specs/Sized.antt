@@ -1,6 +1,6 @@
--- What holds of an offer that was read from a good plant file: its numbers are in range.
+-- What holds of an offer that was read from a good plant file, on a board of the horizon H: its numbers are in range.
 --   SizedStep, SizedAllocation   what holds of a step, of an allocation
---   SizedOffer            what holds of the offer
+--   SizedOffer H o        what holds of the offer
 use Prim.Native.Nat.{ℕ, _≤_, _<_}
 use lib.ListN.{length}
 use Rattle.spec_plain.specs.Limits.{mostSteps, mostAllocations}
@@ -20,7 +20,8 @@ pub record SizedAllocation (n : ℕ) (p : Allocation) : Type 0 where
   pub step : p .step < n
   pub some : 1 ≤ p .length
 
-pub record SizedOffer (o : Offer) : Type 0 where
+pub record SizedOffer (H : ℕ) (o : Offer) : Type 0 where
+  pub due : o .due ≤ H
   pub some : 1 ≤ length (o .steps)
   pub few : length (o .steps) ≤ mostSteps
   pub steps : All SizedStep (o .steps)

@@ -6,6 +6,7 @@ use base_words::offset_at;
 use base_words::u32_at;
 use part_allocations::push_allocation;
 use part_lines::Steps;
+use read_offer::HEADER_SIZE;
 use read_plant::Trailer;
 use read_plant::allocation_count;
 use read_plant::start_of;
@@ -55,7 +56,7 @@ pub fn read_durations(plant: &[u8], t: Trailer, offer: &[u8]) -> Steps
         count,
         steps: [none; limits::MOST_STEPS],
     };
-    let mut at = 24;
+    let mut at = HEADER_SIZE;
     let mut k = 0;
     while k < count {
         let start = start_of(plant, t, u32_at(offer, at));
@@ -123,7 +124,7 @@ pub fn read_allocations(plant: &[u8], t: Trailer, offer: &[u8], allocations: &mu
 {
     let count = u32_at(offer, 20);
     let mut many = 0;
-    let mut at = 24;
+    let mut at = HEADER_SIZE;
     let mut k = 0;
     while k < count {
         let action = u32_at(offer, at);

@@ -98,37 +98,42 @@ module _ (s : Settings) where
           le-leb c (s .horizon) e,
         )
 
-job-to : (j : Job) → sizedJob j ≡ true → SizedJob j
-job-to j h =
-    let p = both-true (leb 2 (j .points)) (leb (j .points) 9) h in
-    record { least = leb-true 2 (j .points) (p .0); most = leb-true (j .points) 9 (p .1) }
+module _ (H : ℕ) where
+  job-to : (j : Job) → sizedJob H j ≡ true → SizedJob H j
+  job-to j h =
+      let p = both-true (leb 2 (j .points) && leb (j .points) 9) (leb (j .due) H) h in
+      let q = both-true (leb 2 (j .points)) (leb (j .points) 9) (p .0) in
+      record { least = leb-true 2 (j .points) (q .0); most = leb-true (j .points) 9 (q .1); due = leb-true (j .due) H (p .1) }
 
-job-of : (j : Job) → SizedJob j → sizedJob j ≡ true
-job-of j s = rw (le-leb 2 (j .points) (s .least), le-leb (j .points) 9 (s .most))
+  job-of : (j : Job) → SizedJob H j → sizedJob H j ≡ true
+  job-of j s = rw (le-leb 2 (j .points) (s .least), le-leb (j .points) 9 (s .most), le-leb (j .due) H (s .due))
 
--- jobs that are sized have few points each
-pub few-points : (js : List Job) → allOf sizedJob js ≡ true → All FewPoints js
-few-points js h = all-map SizedJob FewPoints (λ j s. s .most) js (all-to SizedJob sizedJob job-to js h)
+  -- jobs that are sized have few points each
+  pub few-points : (js : List Job) → allOf (sizedJob H) js ≡ true → All FewPoints js
+  few-points js h = all-map (SizedJob H) FewPoints (λ j s. s .most) js (all-to (SizedJob H) (sizedJob H) job-to js h)
 
-module _ (jobs : Jobs) where
-  jobs-to : sizedJobs jobs ≡ true → (jobs .count ≤ mostJobs) × All SizedJob (jobsOf jobs) × (total (jobsOf jobs) ≤ mostPoints)
-  unfolding sizedJobs
-  jobs-to h =
-      let few = leb (total (jobsOf jobs)) mostPoints in
-      let p = both-true (leb (jobs .count) mostJobs) (allOf sizedJob (jobsOf jobs) && few) h in
-      let q = both-true (allOf sizedJob (jobsOf jobs)) few (p .1) in
-      (leb-true (jobs .count) mostJobs (p .0), all-to SizedJob sizedJob job-to (jobsOf jobs) (q .0), leb-true (total (jobsOf jobs)) mostPoints (q .1))
+  module _ (jobs : Jobs) where
+    jobs-to : sizedJobs H jobs ≡ true → (jobs .count ≤ mostJobs) × All (SizedJob H) (jobsOf jobs) × (total (jobsOf jobs) ≤ mostPoints)
+    unfolding sizedJobs
+    jobs-to h =
+        let few = leb (total (jobsOf jobs)) mostPoints in
+        let p = both-true (leb (jobs .count) mostJobs) (allOf (sizedJob H) (jobsOf jobs) && few) h in
+        let q = both-true (allOf (sizedJob H) (jobsOf jobs)) few (p .1) in (
+          leb-true (jobs .count) mostJobs (p .0),
+          all-to (SizedJob H) (sizedJob H) job-to (jobsOf jobs) (q .0),
+          leb-true (total (jobsOf jobs)) mostPoints (q .1),
+        )
 
-  jobs-of : jobs .count ≤ mostJobs → All SizedJob (jobsOf jobs) → total (jobsOf jobs) ≤ mostPoints → sizedJobs jobs ≡ true
-  unfolding sizedJobs
-  jobs-of h s few =
-      rw (le-leb (jobs .count) mostJobs h, all-of SizedJob sizedJob job-of (jobsOf jobs) s, le-leb (total (jobsOf jobs)) mostPoints few)
+    jobs-of : jobs .count ≤ mostJobs → All (SizedJob H) (jobsOf jobs) → total (jobsOf jobs) ≤ mostPoints → sizedJobs H jobs ≡ true
+    unfolding sizedJobs
+    jobs-of h s few =
+        rw (le-leb (jobs .count) mostJobs h, all-of (SizedJob H) (sizedJob H) job-of (jobsOf jobs) s, le-leb (total (jobsOf jobs)) mostPoints few)
 
-  pub jobs-sized : sizedJobs jobs ≡ true → Sized jobs
-  jobs-sized h = record { count = jobs-to h .0; points = jobs-to h .2 }
+    pub jobs-sized : sizedJobs H jobs ≡ true → Sized jobs
+    jobs-sized h = record { count = jobs-to h .0; points = jobs-to h .2 }
 
-  jobs-each : sizedJobs jobs ≡ true → allOf sizedJob (jobsOf jobs) ≡ true
-  jobs-each h = all-of SizedJob sizedJob job-of (jobsOf jobs) (jobs-to h .1)
+    jobs-each : sizedJobs H jobs ≡ true → allOf (sizedJob H) (jobsOf jobs) ≡ true
+    jobs-each h = all-of (SizedJob H) (sizedJob H) job-of (jobsOf jobs) (jobs-to h .1)
 
 -- ---- lines
 
@@ -253,23 +258,23 @@ module _ (b : Board) where
   unfolding sound
   sound-parts h = both-true (b .marked) (clausesKept b) h
 
-  sound-jobs : clausesKept b ≡ true → sizedJobs (b .jobs) ≡ true
+  sound-jobs : clausesKept b ≡ true → sizedJobs (b .settings .horizon) (b .jobs) ≡ true
   unfolding clausesKept
   sound-jobs h =
       let n = pointsOf b in
       let js = jobsOf (b .jobs) in
       let rest = allOf (sizedLine n) (b .lines) && (sentFrom true js && (isGapTable (b .gaps) (suc n) (b .settings .horizon) && stillSent (b .gaps) 1 js)) in
-      let p = both-true (sizedNumbers (b .settings) (b .clock)) (sizedJobs (b .jobs) && rest) h in
-      both-true (sizedJobs (b .jobs)) rest (p .1) .0
+      let p = both-true (sizedNumbers (b .settings) (b .clock)) (sizedJobs (b .settings .horizon) (b .jobs) && rest) h in
+      both-true (sizedJobs (b .settings .horizon) (b .jobs)) rest (p .1) .0
 
   pub sound-sized : sound b ≡ true → Sized (b .jobs)
-  sound-sized h = jobs-sized (b .jobs) (sound-jobs (sound-parts h .1))
+  sound-sized h = jobs-sized (b .settings .horizon) (b .jobs) (sound-jobs (sound-parts h .1))
 
-  pub sound-each : sound b ≡ true → allOf sizedJob (jobsOf (b .jobs)) ≡ true
-  sound-each h = jobs-each (b .jobs) (sound-jobs (sound-parts h .1))
+  pub sound-each : sound b ≡ true → allOf (sizedJob (b .settings .horizon)) (jobsOf (b .jobs)) ≡ true
+  sound-each h = jobs-each (b .settings .horizon) (b .jobs) (sound-jobs (sound-parts h .1))
 
   pub sound-few : sound b ≡ true → All FewPoints (jobsOf (b .jobs))
-  sound-few h = few-points (jobsOf (b .jobs)) (sound-each h)
+  sound-few h = few-points (b .settings .horizon) (jobsOf (b .jobs)) (sound-each h)
 
   -- the line of each resource, from the test of the list of lines
   lines-to : length (b .lines) ≡ resources → allOf (sizedLine (pointsOf b)) (b .lines) ≡ true
@@ -287,13 +292,13 @@ module _ (b : Board) where
       let lined = allOf (sizedLine n) (b .lines) in
       let table = isGapTable (b .gaps) (suc n) (b .settings .horizon) in
       let still = stillSent (b .gaps) 1 js in
-      let p = both-true numbers (sizedJobs (b .jobs) && (lined && (sentFrom true js && (table && still)))) (sound-parts h .1) in
-      let q = both-true (sizedJobs (b .jobs)) (lined && (sentFrom true js && (table && still))) (p .1) in
+      let p = both-true numbers (sizedJobs (b .settings .horizon) (b .jobs) && (lined && (sentFrom true js && (table && still)))) (sound-parts h .1) in
+      let q = both-true (sizedJobs (b .settings .horizon) (b .jobs)) (lined && (sentFrom true js && (table && still))) (p .1) in
       let r = both-true lined (sentFrom true js && (table && still)) (q .1) in
       let s = both-true (sentFrom true js) (table && still) (r .1) in
       let t = both-true table still (s .1) in
       let ranges = numbers-to (b .settings) (b .clock) (p .0) in
-      let jobs = jobs-to (b .jobs) (q .0) in
+      let jobs = jobs-to (b .settings .horizon) (b .jobs) (q .0) in
       record {
         marked = sound-parts h .0;
         horizon = ranges .0;
@@ -322,7 +327,7 @@ module _ (b : Board) where
       let table : isGapTable (b .gaps) (suc n) (b .settings .horizon) ≡ true =
       gapTable-of (b .gaps) (suc n) (b .settings .horizon) (omega (arith, s .points)) (omega arith) (s .horizon .1) (s .table) in
       let closed = cells-of (b .gaps) (suc n) (b .settings .horizon) (omega arith) (s .horizon .1) (s .table) .closed in
-      all-clauses (s .marked) numbers (jobs-of (b .jobs) (s .jobs) (s .sizes) (s .points)) lined (first-of js (s .sent-first)) table
+      all-clauses (s .marked) numbers (jobs-of (b .settings .horizon) (b .jobs) (s .jobs) (s .sizes) (s .points)) lined (first-of js (s .sent-first)) table
       (still-of (b .gaps) (suc n) closed 1 js (omega arith) (s .sent-still))
 
   -- the one premise: an array of 16 lines has 16 lines

@@ -37,10 +37,12 @@ use Rattle.part_boardwords.specs.Board.{Board}
 
 -- ---- the definition
 
--- "A job of n steps (1 to 8) brings points p0..pn"
-pub record SizedJob (j : Job) : Type 0 where
+-- "A job of n steps (1 to 8) brings points p0..pn"; "A sound board keeps to the limits of this and each later note too": a due time is not past the
+-- horizon H, and 0 where there is none
+pub record SizedJob (H : ℕ) (j : Job) : Type 0 where
   pub least : 2 ≤ j .points
   pub most : j .points ≤ 9
+  pub due : j .due ≤ H
 
 -- "offset (0 to 1,000,000), length (1 to 1,000,000)"; "its lines name only live points (not the origin)"
 pub record SizedUse (points : ℕ) (u : Use) : Type 0 where
@@ -68,7 +70,7 @@ pub record Sound (b : Board) : Type 0 where
   pub clock : b .clock ≤ b .settings .horizon
   -- "At most 16 jobs and, beside the origin, 64 points are live."
   pub jobs : b .jobs .count ≤ mostJobs
-  pub sizes : All SizedJob (jobsOf (b .jobs))
+  pub sizes : All (SizedJob (b .settings .horizon)) (jobsOf (b .jobs))
   pub points : pointsOf b ≤ mostPoints
   -- "A line holds at most 32."
   pub lines : (k : ℕ) → k < resources → getD (b .lines) k noLine .count ≤ mostUses
@@ -94,11 +96,11 @@ sizedSettings s = leb 1 (s .horizon) && leb (s .horizon) 100000000 && leb (s .le
 abbrev pub sizedNumbers : Settings → ℕ → Bool
 sizedNumbers s c = sizedSettings s && leb c (s .horizon)
 
-abbrev pub sizedJob : Job → Bool
-sizedJob j = leb 2 (j .points) && leb (j .points) 9
+abbrev pub sizedJob : ℕ → Job → Bool
+sizedJob H j = leb 2 (j .points) && leb (j .points) 9 && leb (j .due) H
 
-unfoldable pub sizedJobs : Jobs → Bool
-sizedJobs jobs = leb (jobs .count) mostJobs && (allOf sizedJob (jobsOf jobs) && leb (total (jobsOf jobs)) mostPoints)
+unfoldable pub sizedJobs : ℕ → Jobs → Bool
+sizedJobs H jobs = leb (jobs .count) mostJobs && (allOf (sizedJob H) (jobsOf jobs) && leb (total (jobsOf jobs)) mostPoints)
 
 abbrev pub sizedUse : ℕ → Use → Bool
 sizedUse n u = leb 1 (u .point) && leb (u .point) n && leb (u .offset) 1000000 && leb 1 (u .length) && leb (u .length) 1000000
@@ -127,7 +129,7 @@ stillSent l x (j ∷ js) = stillJob l x j && stillSent l (x + j .points) js
 unfoldable pub clausesKept : Board → Bool
 clausesKept b =
     sizedNumbers (b .settings) (b .clock)
-    && (sizedJobs (b .jobs)
+    && (sizedJobs (b .settings .horizon) (b .jobs)
     && (allOf (sizedLine (pointsOf b)) (b .lines)
     && (sentFrom true (jobsOf (b .jobs))
     && (isGapTable (b .gaps) (suc (pointsOf b)) (b .settings .horizon) && stillSent (b .gaps) 1 (jobsOf (b .jobs))))))

@@ -26,14 +26,14 @@ ghost use lib.ListN.{length};
 ghost use Rattle.spec_plain.specs.Limits.{cellCount};
 ghost use Rattle.spec_plain.specs.Plain.{total};
 ghost use Rattle.part_lines.specs.ArrayLists.{jobsOf};
-ghost use Rattle.part_boardwords.specs.Layout.{clockAt, cellsAt, boardSize};
+ghost use Rattle.part_boardwords.specs.Layout.{horizonAt, clockAt, cellsAt, boardSize};
 ghost use Rattle.part_boardwords.specs.Words.{wordIn, settingsRead, heldJobs, frameRead, boardIn, lentBoard};
 ghost use Rattle.part_sound.specs.Sound.{sizedNumbers, sizedJobs, clausesKept, sound};
 
 // The clauses on lines, sent jobs and table, of a board whose numbers and jobs are sized. It has n points beside the origin.
 fn are_others_kept(w: &[u32], t: &[u32], n: u32) -> bool
     requires { ⌜ (cellsAt ≤ length (now w)) × (length (now t) ≡ cellCount) ⌝ }
-    requires { ⌜ (sizedNumbers (settingsRead (wordIn (now w))) (wordIn (now w) clockAt) ≡ true) × (sizedJobs (heldJobs (wordIn (now w))) ≡ true)
+    requires { ⌜ (sizedNumbers (settingsRead (wordIn (now w))) (wordIn (now w) clockAt) ≡ true) × (sizedJobs (wordIn (now w) horizonAt) (heldJobs (wordIn (now w))) ≡ true)
         × (n ≡ total (jobsOf (heldJobs (wordIn (now w))))) ⌝ }
     ensures { λ r. ⌜ r ≡ clausesKept (frameRead (wordIn (now (w .entry))) (now (t .entry))) ⌝ }
 {
@@ -60,7 +60,7 @@ fn are_clauses_kept(w: &[u32], t: &[u32]) -> bool
     if (limits::MOST_JOBS as u32) < w[layout::COUNT_AT] {
         return false;
     }
-    if !is_each_sized(w) {
+    if !is_each_sized(w, w[layout::HORIZON_AT]) {
         return false;
     }
     let n = points_in(w);

@@ -26,22 +26,22 @@ pub fn are_numbers_sized(s: Settings, clock: u32) -> bool
     are_settings_sized(s) & (clock <= s.horizon)
 }
 
-fn is_job_sized(job: Job) -> bool
-    ensures { λ r. ⌜ r ≡ sizedJob job ⌝ }
+fn is_job_sized(job: Job, horizon: u32) -> bool
+    ensures { λ r. ⌜ r ≡ sizedJob horizon job ⌝ }
 {
-    (2 <= job.points) & (job.points <= 9)
+    (2 <= job.points) & (job.points <= 9) & (job.due <= horizon)
 }
 
 // The jobs in use, each read where it lies.
-pub fn is_each_sized(w: &[u32]) -> bool
+pub fn is_each_sized(w: &[u32], horizon: u32) -> bool
     requires { ⌜ (cellsAt ≤ length (now w)) × (wordIn (now w) countAt ≤ mostJobs) ⌝ }
-    ensures { λ r. ⌜ r ≡ allOf sizedJob (jobsOf (heldJobs (wordIn (now (w .entry))))) ⌝ }
+    ensures { λ r. ⌜ r ≡ allOf (sizedJob horizon) (jobsOf (heldJobs (wordIn (now (w .entry))))) ⌝ }
 {
     let count = w[layout::COUNT_AT] as usize;
     let mut ok = true;
     for k in 0..count {
         let job = job_at(w, k);
-        ok = ok & is_job_sized(job);
+        ok = ok & is_job_sized(job, horizon);
     }
     ok
 }

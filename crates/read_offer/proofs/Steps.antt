@@ -22,7 +22,7 @@ use Rattle.base_rulings.specs.Order.{andThen, firstRefusal, refusalOf}
 use Rattle.base_rulings.proofs.RulingLaws.{refused-no, fails-no, passed, neither, both-passed, first-all}
 use Rattle.read_plant.specs.declared.Trailer.{Trailer}
 use Rattle.read_plant.specs.Plant.{trailerOf}
-use Rattle.read_offer.specs.Offer.{stepCount, placeCount, stepEnd, stepStart, stepAt, stepRuling, offerRuling}
+use Rattle.read_offer.specs.Offer.{headerSize, stepCount, placeCount, stepEnd, stepStart, stepAt, stepRuling, offerRuling}
 
 -- ---- one step
 
@@ -63,7 +63,7 @@ step-of p o k at end e = go (ltb (length o) (at + 4) || (leb (trailerOf p .count
 
 -- ---- one step more: its ruling, and where the next starts
 
-pub first-start : (p o : List ℕ) → 24 ≡ stepStart p o 0
+pub first-start : (p o : List ℕ) → headerSize ≡ stepStart p o 0
 unfolding stepStart
 first-start p o = refl
 
@@ -82,7 +82,7 @@ module _ (p o : List ℕ) (k at : ℕ) (x : Record) (ea : at ≡ stepStart p o k
 
 -- ---- the ruling once the steps are read
 
-module _ (p o : List ℕ) (n : ℕ) (long : 24 ≤ length o) (en : n ≡ stepCount o) (some : 1 ≤ n) (few : n ≤ 8) where
+module _ (p o : List ℕ) (n : ℕ) (long : headerSize ≤ length o) (en : n ≡ stepCount o) (some : 1 ≤ n) (few : n ≤ 8) where
   past-7 : offerRuling p o ≡ andThen (firstRefusal (stepRuling p o) n) (cond (eqb (stepStart p o n) (length o)) Accepted (refuse 9))
   unfolding offerRuling
   past-7 = simp (le-ltb _ _ long, ← en, le-ltb _ _ some, le-ltb _ _ few)
@@ -103,7 +103,7 @@ module _ (p o : List ℕ) (n : ℕ) (long : 24 ≤ length o) (en : n ≡ stepCou
 -- ---- an offer that passes 7 to 9
 
 pub record Read (p o : List ℕ) : Type 0 where
-  pub long : 24 ≤ length o
+  pub long : headerSize ≤ length o
   pub some : 1 ≤ stepCount o
   pub few : stepCount o ≤ 8
   pub steps : (k : ℕ) → k < stepCount o → Step p o (stepStart p o k)
@@ -120,8 +120,8 @@ pub read-of : (p o : List ℕ) → offerRuling p o ≡ Accepted → Read p o
 unfolding offerRuling
 read-of p o e =
     let n = stepCount o in
-    let seven = passed (ltb (length o) 24 || (ltb n 1 || ltb 8 n)) _ _ e in
-    let long = neither (ltb (length o) 24) (ltb n 1 || ltb 8 n) (seven .0) in
+    let seven = passed (ltb (length o) headerSize || (ltb n 1 || ltb 8 n)) _ _ e in
+    let long = neither (ltb (length o) headerSize) (ltb n 1 || ltb 8 n) (seven .0) in
     let count = neither (ltb n 1) (ltb 8 n) (long .1) in
     let eight = both-passed (firstRefusal (stepRuling p o) n) _ (seven .1) in
     record {

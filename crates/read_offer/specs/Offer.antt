@@ -1,5 +1,5 @@
 -- The offer: its layout, refusals 7 to 10, the chain that it names, and the fact check. Plant and offer are the lists of their bytes.
---   batchOf, knownOf, goalOf, stepCount   the header of an offer
+--   batchOf, knownOf, goalOf, stepCount, dueOf   the header of an offer;  headerSize: how many bytes it has
 --   placeCount p a     how many places a step of action a has;  placeAt p o k j: the place of allocation j of step k
 --   stepStart p o k    where step k starts; stepEnd p o at: where the step that starts at `at` ends
 --   stepAt p o k at    what reading that step finds: where it ends, or refusal 8;  stepRuling p o k: the ruling on step k
@@ -26,7 +26,8 @@ use Rattle.read_facts.specs.declared.Literals.{Literals}
 use Rattle.read_facts.specs.declared.Action.{Action}
 use Rattle.read_facts.specs.Regression.{factRuling}
 
--- ---- the header: "batch (0 is no batch), known-true, known-false, goal-true, goal-false, step count"
+-- ---- the header: "batch (0 is no batch), known-true, known-false, goal-true, goal-false, step count", and document 02, Note 2: "The offer's header
+-- grows to 28 bytes, with a due time after the step count; 0 means none"
 
 abbrev pub batchOf : List ℕ → ℕ
 batchOf o = word o 0
@@ -40,6 +41,12 @@ goalOf o = record { pos = word o 12; neg = word o 16 }
 abbrev pub stepCount : List ℕ → ℕ
 stepCount o = word o 20
 
+abbrev pub dueOf : List ℕ → ℕ
+dueOf o = word o 24
+
+abbrev pub headerSize : ℕ
+headerSize = 28
+
 -- ---- the steps: "then per step the action number and one place for each of its allocations"
 
 abbrev pub placeCount : List ℕ → ℕ → ℕ
@@ -49,7 +56,7 @@ abbrev pub stepEnd : List ℕ → List ℕ → ℕ → ℕ
 stepEnd p o at = at + 4 + 4 * placeCount p (word o at)
 
 unfoldable pub stepStart : List ℕ → List ℕ → ℕ → ℕ
-stepStart p o zero = 24
+stepStart p o zero = headerSize
 stepStart p o (suc k) = stepEnd p o (stepStart p o k)
 
 -- the place of allocation j of step k
@@ -65,10 +72,10 @@ stepAt p o k at =
 unfoldable pub stepRuling : List ℕ → List ℕ → ℕ → Ruling
 stepRuling p o k = refusalOf (stepAt p o k (stepStart p o k))
 
--- 7: "The offer has under 24 bytes or a step count outside 1 to 8." 9: "Bytes are left over."
+-- 7: "The offer has under 24 bytes or a step count outside 1 to 8", where "the 24 in refusal 7 becomes 28". 9: "Bytes are left over."
 unfoldable pub offerRuling : List ℕ → List ℕ → Ruling
 offerRuling p o =
-    cond (ltb (length o) 24 || (ltb (stepCount o) 1 || ltb 8 (stepCount o))) (refuse 7)
+    cond (ltb (length o) headerSize || (ltb (stepCount o) 1 || ltb 8 (stepCount o))) (refuse 7)
     (andThen (firstRefusal (stepRuling p o) (stepCount o))
     (cond (eqb (stepStart p o (stepCount o)) (length o)) Accepted (refuse 9)))
 

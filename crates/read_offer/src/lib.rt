@@ -23,11 +23,14 @@ ghost use lib.ListN.{length};
 ghost use Rattle.read_plant.specs.Plant.{plantRuling, trailerOf};
 ghost use Rattle.read_facts.specs.Regression.{workBack};
 ghost use Rattle.read_offer.specs.ChainMasks.{heldAction, held};
-ghost use Rattle.read_offer.specs.Offer.{knownOf, goalOf, stepCount, stepAt, offerRuling, chainFrom, consistencyRuling, chainRuling, factCheck};
+ghost use Rattle.read_offer.specs.Offer.{headerSize, knownOf, goalOf, stepCount, stepAt, offerRuling, chainFrom, consistencyRuling, chainRuling, factCheck};
+
+// The bytes of an offer before its steps.
+pub const HEADER_SIZE: usize = 28;
 
 // The facts known of the sheet.
 fn read_known(offer: &[u8]) -> Literals
-    requires { ⌜ 24 ≤ length (now offer) ⌝ }
+    requires { ⌜ headerSize ≤ length (now offer) ⌝ }
     ensures { λ r. ⌜ r ≡ knownOf (now (offer .entry)) ⌝ }
 {
     Literals {
@@ -38,7 +41,7 @@ fn read_known(offer: &[u8]) -> Literals
 
 // The facts wanted of it at the end.
 fn read_goal(offer: &[u8]) -> Literals
-    requires { ⌜ 24 ≤ length (now offer) ⌝ }
+    requires { ⌜ headerSize ≤ length (now offer) ⌝ }
     ensures { λ r. ⌜ r ≡ goalOf (now (offer .entry)) ⌝ }
 {
     Literals {
@@ -69,10 +72,10 @@ fn read_step(plant: &[u8], t: Trailer, offer: &[u8], step: u32, at: usize) -> Re
 // Reads the steps one after the other. The first that fails ends the reading; then 9.
 fn read_steps(plant: &[u8], t: Trailer, offer: &[u8], count: u32) -> Ruling
     requires { ⌜ (plantRuling (now plant) ≡ Ruling.Accepted) × (t ≡ trailerOf (now plant))
-        × (24 ≤ length (now offer)) × (count ≡ stepCount (now offer)) × (1 ≤ count) × (count ≤ 8) ⌝ }
+        × (headerSize ≤ length (now offer)) × (count ≡ stepCount (now offer)) × (1 ≤ count) × (count ≤ 8) ⌝ }
     ensures { λ r. ⌜ r ≡ offerRuling (now (plant .entry)) (now (offer .entry)) ⌝ }
 {
-    let mut at = 24;
+    let mut at = HEADER_SIZE;
     let mut step = 0;
     while step < count {
         let answer = read_step(plant, t, offer, step, at);
@@ -93,7 +96,7 @@ pub fn read_offer(plant: &[u8], t: Trailer, offer: &[u8]) -> Ruling
     requires { ⌜ (plantRuling (now plant) ≡ Ruling.Accepted) × (t ≡ trailerOf (now plant)) ⌝ }
     ensures { λ r. ⌜ r ≡ offerRuling (now (plant .entry)) (now (offer .entry)) ⌝ }
 {
-    if offer.len() < 24 {
+    if offer.len() < HEADER_SIZE {
         return Ruling::Refused(Cause::Plain(7));
     }
     let count = u32_at(offer, 20);
@@ -113,7 +116,7 @@ fn read_masks(plant: &[u8], t: Trailer, offer: &[u8], count: u32) -> [u32; 32]
     ensures { λ r. ⌜ held r 0 count ≡ chainFrom (now (plant .entry)) (now (offer .entry)) 0 count ⌝ }
 {
     let mut masks = [0u32; 32];
-    let mut at = 24;
+    let mut at = HEADER_SIZE;
     let mut step = 0;
     while step < count {
         let start = start_of(plant, t, u32_at(offer, at));
@@ -165,7 +168,7 @@ fn work_back(masks: &[u32; 32], left: u32, pos: u32, neg: u32) -> Need
 
 // 10: whether the facts known, and the facts wanted, are consistent.
 pub fn check_consistency(offer: &[u8]) -> Ruling
-    requires { ⌜ 24 ≤ length (now offer) ⌝ }
+    requires { ⌜ headerSize ≤ length (now offer) ⌝ }
     ensures { λ r. ⌜ r ≡ consistencyRuling (now (offer .entry)) ⌝ }
 {
     let known = read_known(offer);

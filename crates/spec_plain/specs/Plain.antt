@@ -1,9 +1,9 @@
 -- The plain machine (document 01, "Points, rules, timetables"): what plan, send, clock and retire do to jobs, lines and clock, and which
 -- rules they make. No table and no timetable: the rule book decides by the definition which of these rules can be kept.
---   Offer            an offer as it was read: batch, steps, allocations
+--   Offer            an offer as it was read: batch, due time, steps, allocations
 --   State            jobs (oldest first), one line per resource, clock, settings (horizon H, lead D)
 --   withJobs, withLines, withClock, withSettings   a state with other jobs, other lines, another clock, other settings
---   newJob n b, sentJob j   an unsent job of n points and batch b; the job j, sent
+--   newJob n b q, sentJob j   an unsent job of n points, batch b and due time q; the job j, sent
 --   total, liveCount how many points live beside the origin, and with it. The origin is point 0, the first job's p0 is point 1, and so on
 -- What later requests change, each in one place:
 --   endOf s u        how long after its point a use ends
@@ -21,9 +21,11 @@
 --   ruleBefore, ruleAfter   (d): the rule with the use just before the new one, and with the one just after
 --   placed           the allocations placed one after the other: 15, 16, or the new lines and the rules made (Placed)
 --   batchRules       the rule (e), if there is one: by afterNewest, with the newest job of the batch;  orElse: a list, or another where it is empty
+--   dueRules         the rule of the due time, if there is one
 --   full s n         14: 16 jobs, or more than 64 points with n new ones
---   newPoints, jobFrom  the number of points that an offer brings, and its job
---   drafted s o      plan, before timetables are looked at: 14, 15, 16, or the state to be and the rules (b) to (e) (Draft);  joining: once placed
+--   newPoints, lastPoint, jobFrom   the number of points that an offer brings, the number of its last one, and its job
+--   drafted s o      plan, before timetables are looked at: 14, 15, 16, or the state to be and the rules (b) to (e) and of the due time (Draft);
+--                    joining: once placed
 -- Send:
 --   unsentAt k js    not 18: the job at place k is there and unsent
 --   unsentPoints     the points to be set, those of the unsent jobs;  range x n: the n points from x on
@@ -53,9 +55,10 @@ use Rattle.spec_plain.specs.declared.Rule.{Rule}
 use Rattle.spec_plain.specs.declared.Step.{Step}
 use Rattle.spec_plain.specs.declared.Allocation.{Allocation}
 
--- an offer as it was read: its batch, its steps, and its allocations "in offer order"
+-- an offer as it was read: its batch, its due time (0 is none), its steps, and its allocations "in offer order"
 pub record Offer : Type 0 where
   pub batch : ℕ
+  pub due : ℕ
   pub steps : List Step
   pub allocations : List Allocation
 
@@ -79,11 +82,11 @@ abbrev pub withSettings : State → Settings → State
 withSettings s g = record { jobs = s .jobs; lines = s .lines; clock = s .clock; settings = g }
 
 -- no other definition names all fields of a job
-abbrev pub newJob : ℕ → ℕ → Job
-newJob n b = record { points = n; batch = b; sent = false }
+abbrev pub newJob : ℕ → ℕ → ℕ → Job
+newJob n b q = record { points = n; batch = b; sent = false; due = q }
 
 abbrev pub sentJob : Job → Job
-sentJob j = record { points = j .points; batch = j .batch; sent = true }
+sentJob j = record { points = j .points; batch = j .batch; sent = true; due = j .due }
 
 unfoldable pub total : List Job → ℕ
 total [] = 0
@@ -195,7 +198,12 @@ afterNewest d b last x (j ∷ js) =
 unfoldable pub batchRules : ℕ → ℕ → ℕ → List Job → List Rule
 batchRules d b last js = cond (eqb b 0) [] (afterNewest d b last 1 js)
 
--- what an offer comes to before timetables are looked at: a refusal, or the state to be, the number of new points, and the rules (b) to (e)
+-- document 02, Note 2: "A due time adds one rule: pn is no later", and "0 means none". q is the due time, last the number of pn
+unfoldable pub dueRules : ℕ → ℕ → List Rule
+dueRules q last = cond (eqb q 0) [] (notAfter last q ∷ [])
+
+-- what an offer comes to before timetables are looked at: a refusal, or the state to be, the number of new points, and the rules (b) to (e) and
+-- of the due time
 pub data Draft : Type 0 where
   stop : Cause → Draft
   go : State → ℕ → List Rule → Draft
@@ -207,8 +215,12 @@ full s n = leb mostJobs (length (s .jobs)) || ltb mostPoints (total (s .jobs) + 
 abbrev pub newPoints : Offer → ℕ
 newPoints o = suc (length (o .steps))
 
+-- the number of pn, where p0 is point `liveCount s`
+abbrev pub lastPoint : State → Offer → ℕ
+lastPoint s o = liveCount s + length (o .steps)
+
 abbrev pub jobFrom : Offer → Job
-jobFrom o = newJob (newPoints o) (o .batch)
+jobFrom o = newJob (newPoints o) (o .batch) (o .due)
 
 unfoldable pub joining : State → Offer → Placed → Draft
 joining s o (stop c) = stop c
@@ -218,7 +230,7 @@ joining s o (done ls rs) =
     (newPoints o)
     (notBefore (liveCount s) (s .clock + s .settings .lead)
     ∷ durations (liveCount s) (o .steps) ++ rs
-    ++ batchRules (trayGap (s .settings)) (jobBatch (jobFrom o)) (liveCount s + length (o .steps)) (s .jobs))
+    ++ (batchRules (trayGap (s .settings)) (jobBatch (jobFrom o)) (lastPoint s o) (s .jobs) ++ dueRules (o .due) (lastPoint s o)))
 
 unfoldable pub drafted : State → Offer → Draft
 drafted s o = cond (full s (newPoints o)) (stop (plain 14)) (joining s o (placed (s .settings) (liveCount s) 0 (o .allocations) (s .lines) []))

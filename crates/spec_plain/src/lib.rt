@@ -8,11 +8,13 @@ pub struct Settings {
     pub lead: u32,
 }
 
-// A job: how many points it has (one more than steps), its batch (0 is none), and whether it was sent.
+// A job: how many points it has (one more than steps), its batch (0 is none), whether it was sent, and its due time, the latest time of its last
+// point (0 is none).
 pub struct Job {
     pub points: u32,
     pub batch: u32,
     pub sent: bool,
+    pub due: u32,
 }
 
 // A use of a resource (document 01: an allocation in a line). It starts `offset` after its point, the start of its step, and

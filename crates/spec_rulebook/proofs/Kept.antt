@@ -2,6 +2,7 @@
 -- retired, and new ones only come behind them. No two points ever get one name, and the origin keeps its own. Assumes nothing.
 --   back, back-reindexed   the point that got this name when the m points from f on left: it undoes `reindexed`
 --   reindexed-apart, reindexed-before   so `reindexed` gives no two points one name; a point before f keeps its own
+--   reindexed-stays    a point behind those that leave gets a number that is m lower;  retired: where the oldest job leaves the rules are carried so
 --   carried-possible, carried-apart   what that gives: a timetable possible after was possible before; different rules stay different
 --   step-carries       every call, under the names of `renaming`;  runs-carry: every list of calls, under names that come of them
 use mathlib.Core.Path.{_≡_, refl, sym, ap, subst, _∙_}
@@ -49,7 +50,7 @@ module _ (f m : ℕ) where
   reindexed-leaves k lo hi = simp (le-leb f k lo, lt-ltb k (f + m) hi)
 
   -- one behind them
-  reindexed-stays : (k : ℕ) → f + m ≤ k → reindexed f m (live k) ≡ live (k - m)
+  pub reindexed-stays : (k : ℕ) → f + m ≤ k → reindexed f m (live k) ≡ live (k - m)
   unfolding reindexed Plain.goes Plain.newNumber
   reindexed-stays k h = simp (le-leb f k (omega arith), le-ltb k (f + m) h, le-ltb k f (omega arith))
 
@@ -121,7 +122,7 @@ unfolding Guarded
 guarded true n b k R r h p = h p
 guarded false n b k R r h p = refuses b k _ r p
 
-retired : (m : ℕ) (b k : Book) → k .rules ≡ map (renamed (reindexed 1 m)) (b .rules) → Carries (reindexed 1 m) b k
+pub retired : (m : ℕ) (b k : Book) → k .rules ≡ map (renamed (reindexed 1 m)) (b .rules) → Carries (reindexed 1 m) b k
 retired m b k e =
     record {
       apart = reindexed-apart 1 m;

@@ -1,26 +1,45 @@
--- A plan's reading makes the fact check's tests. Assumes nothing.
---   reading-rules     the reading is ruled as the fact check rules: it is bad by the check's cause, or good where the check accepts
---   past-then         past one test and then another
-use mathlib.Core.Path.{_≡_, refl, ap, _∙_}
+-- A plan's tests of the bytes and those of the fact check. Assumes nothing.
+--   due-within, due-past, within-of   whether the due time lies within the horizon is what 23 tests
+--   plan-check-is      within the horizon a plan's tests are the fact check's
+--   checked            where a plan's tests accept, the fact check does, and the due time lies within the horizon
+use mathlib.Core.Path.{_≡_, refl, sym, ap, _∙_}
+use mathlib.Core.Bool.{Bool, true, false, cond}
 use mathlib.Core.List.{List}
-use Prim.Native.Nat.{ℕ}
+use Prim.Native.Nat.{ℕ, _≤_, _<_}
+use lib.Dec.{ltb}
+use borrow.Author.Tests.{ltb-false, le-ltb, lt-ltb}
 use Rattle.base_rulings.specs.declared.Ruling.{Ruling}
 use Rattle.base_rulings.specs.declared.Ruling.the-variants.{Accepted, Refused}
+use Rattle.base_rulings.specs.Answer.{refuse}
 use Rattle.base_rulings.specs.Order.{andThen}
+use Rattle.base_rulings.proofs.RulingLaws.{passed, both-passed}
 use Rattle.read_plant.specs.Plant.{plantRuling}
-use Rattle.read_offer.specs.Offer.{offerRuling, consistencyRuling, chainRuling, factCheck}
+use Rattle.read_offer.specs.Offer.{dueOf, offerRuling, consistencyRuling, chainRuling, factCheck}
 use Rattle.spec_plain.specs.Plain.{State}
-use Rattle.spec_rulebook.specs.Reading.{Reading, good, offerOf, past, readingOf}
+use Rattle.spec_rulebook.specs.Reading.{dueRuling, planCheck}
 
-past-then : (q r : Ruling) (x : Reading) → past q (past r x) ≡ past (andThen q r) x
-unfolding past
-past-then Accepted r x = refl
-past-then (Refused c) r x = refl
+module _ (s : State) (o : List ℕ) where
+  pub due-within : dueOf o ≤ s .settings .horizon → dueRuling s o ≡ Accepted
+  unfolding dueRuling
+  due-within le = rw (le-ltb (s .settings .horizon) (dueOf o) le)
 
-pub reading-rules : (s : State) (p o : List ℕ) → readingOf s p o ≡ past (factCheck p o) (good (offerOf p o))
-unfolding readingOf factCheck
-reading-rules s p o =
-    let end = good (offerOf p o) in
-    let facts = past-then (consistencyRuling o) (chainRuling p o) end in
-    let offer = ap (past (offerRuling p o)) facts ∙ past-then (offerRuling p o) _ end in
-    ap (past (plantRuling p)) offer ∙ past-then (plantRuling p) _ end
+  pub due-past : s .settings .horizon < dueOf o → dueRuling s o ≡ refuse 23
+  unfolding dueRuling
+  due-past lt = rw (lt-ltb (s .settings .horizon) (dueOf o) lt)
+
+  pub within-of : dueRuling s o ≡ Accepted → dueOf o ≤ s .settings .horizon
+  unfolding dueRuling
+  within-of e = ltb-false (s .settings .horizon) (dueOf o) (passed (ltb (s .settings .horizon) (dueOf o)) _ _ e .0)
+
+pub plan-check-is : (s : State) (p o : List ℕ) → dueRuling s o ≡ Accepted → planCheck s p o ≡ factCheck p o
+unfolding planCheck factCheck
+plan-check-is s p o e = rw e
+
+pub checked : (s : State) (p o : List ℕ) → planCheck s p o ≡ Accepted → (factCheck p o ≡ Accepted) × (dueOf o ≤ s .settings .horizon)
+unfolding planCheck
+checked s p o e =
+    let plant = both-passed (plantRuling p) _ e in
+    let offer = both-passed (offerRuling p o) _ (plant .1) in
+    let facts = both-passed (consistencyRuling o) _ (offer .1) in
+    let due = both-passed (dueRuling s o) (chainRuling p o) (facts .1) .0 in
+    (sym (plan-check-is s p o due) ∙ e, within-of s o due)

@@ -121,7 +121,7 @@ unfoldable pub Guarded : Bool → ℕ → Book → (Ruling → Book → Type 0) 
 Guarded true n b R r k = R r k
 Guarded false n b R r k = Refuses b (plain n) r k
 
--- (a) comes before the draft's (b) to (e)
+-- (a) comes before the draft's (b) to (e) and the due time's rule
 unfoldable pub Plans : Book → Plain.Draft → Ruling → Book → Type 0
 Plans b (Plain.Draft.stop c) r k = Refuses b c r k
 Plans b (Plain.Draft.go s n rs) r k =

@@ -2,16 +2,21 @@
 --   recordOf p o k     where the record of step k's action starts
 --   stepOf, allocationOf      a step's durations; an allocation with its place;  stepsFrom, allocationsOfStep, allocationsFrom: lists of them
 --   offerOf p o        the offer that a good plant file and a good offer spell
---   readingOf s p o    the first of refusals 1 to 4 and 7 to 13, or that offer: a Reading. The state s is there for tests that look at it
---   past r x           the reading x, past a test that is ruled r
+--   dueRuling s o      23: whether the due time lies within the horizon of the state s
+--   planCheck s p o    the first of refusals 1 to 4, 7 to 10, 23 and 11 to 13
+--   readingOf s p o    that refusal, or that offer: a Reading;  past r x: the reading x, past tests that are ruled r
 use Prim.Native.Nat.{ℕ, zero, suc, _+_}
+use mathlib.Core.Bool.{cond}
 use mathlib.Core.List.{List, [], _∷_, _++_}
+use lib.Dec.{ltb}
 use Rattle.base_words.specs.Word.{word}
 use Rattle.base_rulings.specs.declared.Cause.{Cause}
 use Rattle.base_rulings.specs.declared.Ruling.{Ruling}
 use Rattle.base_rulings.specs.declared.Ruling.the-variants.{Accepted, Refused}
+use Rattle.base_rulings.specs.Answer.{refuse}
+use Rattle.base_rulings.specs.Order.{andThen}
 use Rattle.read_plant.specs.Plant.{recordStart, shortest, longest, allocationCount, allocationStart, resource, offset, useLength, plantRuling}
-use Rattle.read_offer.specs.Offer.{batchOf, stepCount, stepStart, placeAt, offerRuling, consistencyRuling, chainRuling}
+use Rattle.read_offer.specs.Offer.{batchOf, dueOf, stepCount, stepStart, placeAt, offerRuling, consistencyRuling, chainRuling}
 use Rattle.spec_plain.specs.declared.Step.{Step}
 use Rattle.spec_plain.specs.declared.Allocation.{Allocation}
 use Rattle.spec_plain.specs.Plain.{Offer, State}
@@ -50,7 +55,8 @@ allocationsFrom p o k zero = []
 allocationsFrom p o k (suc n) = allocationsOfStep p o k 0 (allocationCount p (recordOf p o k)) ++ allocationsFrom p o (k + 1) n
 
 unfoldable pub offerOf : List ℕ → List ℕ → Offer
-offerOf p o = record { batch = batchOf o; steps = stepsFrom p o 0 (stepCount o); allocations = allocationsFrom p o 0 (stepCount o) }
+offerOf p o =
+    record { batch = batchOf o; due = dueOf o; steps = stepsFrom p o 0 (stepCount o); allocations = allocationsFrom p o 0 (stepCount o) }
 
 pub data Reading : Type 0 where
   bad : Cause → Reading
@@ -60,11 +66,14 @@ unfoldable pub past : Ruling → Reading → Reading
 past Accepted x = x
 past (Refused c) x = bad c
 
--- 1 to 4, 7 to 9, 10, 11 to 13: the tests of the fact check, in its order
+-- "23 when the due time is past the horizon"
+unfoldable pub dueRuling : State → List ℕ → Ruling
+dueRuling s o = cond (ltb (s .settings .horizon) (dueOf o)) (refuse 23) Accepted
+
+-- the tests of the fact check, in its order, and 23, "tested straight after 10 by plan; the fact check, which sees no board, doesn't test it"
+unfoldable pub planCheck : State → List ℕ → List ℕ → Ruling
+planCheck s p o =
+    andThen (plantRuling p) (andThen (offerRuling p o) (andThen (consistencyRuling o) (andThen (dueRuling s o) (chainRuling p o))))
+
 unfoldable pub readingOf : State → List ℕ → List ℕ → Reading
-readingOf s p o =
-    past (plantRuling p)
-    (past (offerRuling p o)
-    (past (consistencyRuling o)
-    (past (chainRuling p o)
-    (good (offerOf p o)))))
+readingOf s p o = past (planCheck s p o) (good (offerOf p o))

@@ -69,10 +69,10 @@ cells-fit l n u g =
 
 -- ---- the rest of a state
 
-sizes-in : (js : List Job) → All SizedJob js → AllHavePoints js
+sizes-in : (H : ℕ) (js : List Job) → All (SizedJob H) js → AllHavePoints js
 unfolding AllHavePoints
-sizes-in [] a = tt
-sizes-in (j ∷ js) a = (let two = a .0 .least in omega (arith, two), sizes-in js (a .1))
+sizes-in H [] a = tt
+sizes-in H (j ∷ js) a = (let two = a .0 .least in omega (arith, two), sizes-in H js (a .1))
 
 line-in : (n : ℕ) (us : List Use) → All (SizedUse n) us → LineOfLive (suc n) us
 unfolding LineOfLive
@@ -100,7 +100,7 @@ parts-holds {s} {l} p =
       );
       still = p .still;
       lines = lines-in (total (s .jobs)) (s .lines) (p .limits .lines);
-      jobs = sizes-in (s .jobs) (p .limits .sizes);
+      jobs = sizes-in (s .settings .horizon) (s .jobs) (p .limits .sizes);
       small = omega (arith, few);
     }
 

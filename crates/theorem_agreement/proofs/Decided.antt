@@ -6,7 +6,7 @@
 --   send-decided    send, past 18: always accepted, with a timetable left, and each point sent at its least time of before
 --   after-20        after 20, sending the newest job and repeating the clock call succeeds
 --   plan-14         14, of any offer: exactly when it is past 1 to 13 and there are 16 jobs or the points would pass 64;  read-14: past them
--- Retire's are in TwentyOne (when it is accepted and when 21) and Room (what it leaves).
+-- Plan's 23 is in TwentyThree; retire's are in TwentyOne (when it is accepted and when 21) and Room (what it leaves).
 use mathlib.Core.Path.{_≡_, refl, sym, ap, subst, _∙_}
 use mathlib.Core.Logic.{_↔_}
 use mathlib.Core.Bool.{true, false, not}
@@ -20,15 +20,13 @@ use Rattle.base_rulings.specs.declared.Cause.{Cause}
 use Rattle.base_rulings.specs.declared.Ruling.{Ruling}
 use Rattle.base_rulings.specs.declared.Ruling.the-variants.{Refused}
 use Rattle.base_rulings.specs.Answer.{refuse, numberOf}
-use Rattle.read_offer.specs.Offer.{factCheck}
 use Rattle.spec_plain.specs.declared.Rule.{Rule}
 use Rattle.spec_plain.specs.Plain.{Offer, State, Draft, newPoints, upperBound, bounds, drafted}
 use Rattle.spec_plain.specs.Plain.{unsentAt, unsentPoints, clockOk, clockState, starts, sentState}
 use Rattle.spec_plain.specs.Rules.{KeepsAll}
 use Rattle.part_lines.specs.ArrayLists.{noJob}
 use Rattle.part_lines.proofs.JobLaws.{unsent-at}
-use Rattle.spec_rulebook.specs.Reading.{Reading, bad, good, past, offerOf, readingOf}
-use Rattle.spec_rulebook.proofs.Reading.{reading-rules}
+use Rattle.spec_rulebook.specs.Reading.{Reading, bad, good, past, offerOf, planCheck, readingOf}
 use Rattle.spec_rulebook.specs.Book.{plan, send, clock, Plans, Reads, Step}
 use Rattle.part_boardwords.specs.Board.{Board}
 use Rattle.part_sound.specs.Sound.{Sound}
@@ -50,7 +48,7 @@ use Rattle.theorem_agreement.proofs.Keeps.{planned-is, send-answered, c
 use Rattle.theorem_agreement.proofs.Agreement.{carried, call-agrees}
 use Rattle.theorem_agreement.proofs.Exact.{sim-minimal, passed, settled-decided}
 use Rattle.theorem_agreement.proofs.Sending.{sends-least}
-use Rattle.theorem_agreement.proofs.Early.{Early, check-early}
+use Rattle.theorem_agreement.proofs.Early.{Tested, check-early}
 use Rattle.theorem_agreement.proofs.Fourteen.{decided-14}
 
 -- a reading that stops is none that goes on
@@ -123,10 +121,10 @@ module _ (b : Board) (w : Shaped b) (s : Sound b) where
       rw heard-as (decided-14 b offer (omega (arith, is, few)))
 
   pub plan-14 : (p o : List ℕ) → (planned b p o .ruling ≡ refuse 14) ↔ Full b p o
-  unfolding heard past
-  plan-14 p o = go (factCheck p o) (reading-rules (stateOf b) p o) (check-early p o)
+  unfolding heard readingOf past
+  plan-14 p o = go (planCheck (stateOf b) p o) refl (check-early (stateOf b) p o)
     where
-      go : (r : Ruling) → readingOf (stateOf b) p o ≡ past r (good (offerOf p o)) → Early r → (planned b p o .ruling ≡ refuse 14) ↔ Full b p o
+      go : (r : Ruling) → readingOf (stateOf b) p o ≡ past r (good (offerOf p o)) → Tested r → (planned b p o .ruling ≡ refuse 14) ↔ Full b p o
       go Accepted e x =
           let read = read-14 p o (offerOf p o) e in (
             λ q. record { offer = offerOf p o; reads = e; no-room = read .0 q },
@@ -134,6 +132,6 @@ module _ (b : Board) (w : Shaped b) (s : Sound b) where
           )
       go (Refused c) e x =
           let stops : planned b p o .ruling ≡ Refused c = ap (λ (a : Ruled). a .ruling) (planned-is b w s p o ∙ ap (heard b) e) in (
-            λ q. absurd (let low = x .low in omega (arith, low, ap numberOf (sym stops ∙ q))),
+            λ q. absurd (x .no14 (ap numberOf (sym stops ∙ q))),
             λ f. absurd (bad-good (sym e ∙ f .reads)),
           )

@@ -104,7 +104,7 @@ unfoldable pub DraftSized : State → Draft → Type 0
 DraftSized s (Draft.stop c) = Unit {0}
 DraftSized s (Draft.go next n rs) = Limits next × (next .settings ≡ s .settings)
 
-module _ {s : State} (p : Limits s) (o : Offer) (sized : SizedOffer o) where
+module _ {s : State} (p : Limits s) (o : Offer) (sized : SizedOffer (s .settings .horizon) o) where
   joined-total : total (s .jobs ++ (jobFrom o ∷ [])) ≡ total (s .jobs) + newPoints o
   unfolding total
   joined-total = omega (arith, total-append (s .jobs) (jobFrom o ∷ []))
@@ -117,13 +117,13 @@ module _ {s : State} (p : Limits s) (o : Offer) (sized : SizedOffer o) where
   joining-sized (Placed.done ls rs) few points a =
       let lo = sized .some in
       let hi = sized .few in
-      let job : SizedJob (jobFrom o) = record { least = omega (arith, lo); most = omega (arith, hi) } in (
+      let job : SizedJob (s .settings .horizon) (jobFrom o) = record { least = omega (arith, lo); most = omega (arith, hi); due = sized .due } in (
         record {
           horizon = p .horizon;
           lead = p .lead;
           clock = p .clock;
           jobs = omega (arith, length-append (s .jobs) (jobFrom o ∷ []));
-          sizes = all-append SizedJob (s .jobs) (jobFrom o ∷ []) (p .sizes) (job, tt);
+          sizes = all-append (SizedJob (s .settings .horizon)) (s .jobs) (jobFrom o ∷ []) (p .sizes) (job, tt);
           points = omega (arith, joined-total);
           sixteen = a .0;
           lines = rw joined-total (a .1);

@@ -16,7 +16,6 @@ use Rattle.base_rulings.specs.declared.Ruling.{Ruling}
 use Rattle.base_rulings.specs.declared.Ruling.the-variants.{Accepted, Refused}
 use Rattle.base_rulings.specs.Answer.{plain}
 use Rattle.read_plant.specs.Plant.{plantRuling}
-use Rattle.read_offer.specs.Offer.{factCheck}
 use Rattle.spec_plain.specs.Limits.{side, cellCount}
 use Rattle.spec_plain.specs.declared.Rule.{Rule}
 use Rattle.spec_plain.specs.Plain.{State, Draft, liveCount, drafted, unsentAt, sentState, clockOk, clockState, starts}
@@ -24,8 +23,7 @@ use Rattle.spec_stn.specs.Table.{Table, Agree, addAll, growAll}
 use Rattle.part_gaps.specs.Cells.{tableOf, grown}
 use Rattle.part_gaps.proofs.Grown.{grown-length, grown-agree}
 use Rattle.part_gaps.proofs.GapTable.{GoodCells, grown-good}
-use Rattle.spec_rulebook.specs.Reading.{Reading, offerOf, past, readingOf}
-use Rattle.spec_rulebook.proofs.Reading.{reading-rules}
+use Rattle.spec_rulebook.specs.Reading.{Reading, offerOf, past, planCheck, readingOf}
 use Rattle.spec_rulebook.specs.Book.{Book, plan, send, clock}
 use Rattle.part_boardwords.specs.Board.{Board}
 use Rattle.part_sound.specs.Sound.{Sound}
@@ -110,7 +108,7 @@ module _ (b : Board) (w : Shaped b) (s : Sound b) where
       _ (plan-mirrors holds (Draft.go next m rs) i)
 
   pub planned-is : (p o : List ℕ) → planned b p o ≡ heard b (readingOf (stateOf b) p o)
-  unfolding planned unlessRefused heard readingOf past
+  unfolding planned unlessRefused heard readingOf planCheck past
   planned-is p o = rw (sound-of b (w .lines) s) (go (plantRuling p) refl)
     where
       go :
@@ -124,14 +122,14 @@ module _ (b : Board) (w : Shaped b) (s : Sound b) where
   Read x = Answered (heard b x) (Model.heard (abstractOf b) x)
 
   pub plan-answered : (p o : List ℕ) → Answered (planned b p o) (Model.step (abstractOf b) (plan p o))
-  unfolding Model.step Model.heard heard past
-  plan-answered p o = rw (planned-is p o) (subst Read (sym (reading-rules (stateOf b) p o)) (go (factCheck p o) refl))
+  unfolding Model.step Model.heard heard readingOf past
+  plan-answered p o = rw (planned-is p o) (go (planCheck (stateOf b) p o) refl)
     where
-      go : (r : Ruling) → factCheck p o ≡ r → Read (past r (Reading.good (offerOf p o)))
+      go : (r : Ruling) → planCheck (stateOf b) p o ≡ r → Read (past r (Reading.good (offerOf p o)))
       go Accepted e =
           draft-answered (drafted (stateOf b) (offerOf p o))
           (drafted-in (stateOf b) (offerOf p o) (holds .lines) (holds .jobs) (holds .small) (offer-in p o))
-          (drafted-sized (parts .limits) (offerOf p o) (checked-sized p o e))
+          (drafted-sized (parts .limits) (offerOf p o) (checked-sized (stateOf b) p o e))
       go (Refused c) e = refused-answered c
 
   -- ---- send

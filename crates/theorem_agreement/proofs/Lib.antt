@@ -11,6 +11,7 @@ pub mod Sending
 pub mod Fourteen
 pub mod Early
 pub mod Six
+pub mod TwentyThree
 pub mod Refused
 pub mod Decided
 pub mod Lists

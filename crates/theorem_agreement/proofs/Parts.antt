@@ -41,7 +41,7 @@ pub record Limits (s : State) : Type 0 where
   pub lead : s .settings .lead ≤ 1000000
   pub clock : s .clock ≤ s .settings .horizon
   pub jobs : length (s .jobs) ≤ mostJobs
-  pub sizes : All SizedJob (s .jobs)
+  pub sizes : All (SizedJob (s .settings .horizon)) (s .jobs)
   pub points : total (s .jobs) ≤ mostPoints
   pub sixteen : length (s .lines) ≡ resources
   pub lines : All (SizedLine (total (s .jobs))) (s .lines)

@@ -18,11 +18,11 @@ use Rattle.theorem_demands.proofs.Send.{total-marked}
 use Rattle.theorem_demands.proofs.Sent.{first-marked}
 use Rattle.theorem_agreement.proofs.Parts.{Limits}
 
-sizes-marked : (k : ℕ) (js : List Job) → All SizedJob js → All SizedJob (sentUpTo k js)
+sizes-marked : (H k : ℕ) (js : List Job) → All (SizedJob H) js → All (SizedJob H) (sentUpTo k js)
 unfolding sentUpTo
-sizes-marked zero js a = a
-sizes-marked (suc k) [] a = tt
-sizes-marked (suc k) (j ∷ js) a = (record { least = a .0 .least; most = a .0 .most }, sizes-marked k js (a .1))
+sizes-marked H zero js a = a
+sizes-marked H (suc k) [] a = tt
+sizes-marked H (suc k) (j ∷ js) a = (record { least = a .0 .least; most = a .0 .most; due = a .0 .due }, sizes-marked H k js (a .1))
 
 pub sent-limits : {s : State} (place : ℕ) → Limits s → Limits (sentState s place)
 unfolding sentState
@@ -34,7 +34,7 @@ sent-limits {s} place p =
       lead = p .lead;
       clock = p .clock;
       jobs = omega (arith, length-marked (suc place) (s .jobs), few);
-      sizes = sizes-marked (suc place) (s .jobs) (p .sizes);
+      sizes = sizes-marked (s .settings .horizon) (suc place) (s .jobs) (p .sizes);
       points = rw same (p .points);
       sixteen = p .sixteen;
       lines = rw same (p .lines);

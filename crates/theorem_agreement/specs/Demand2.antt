@@ -5,6 +5,7 @@
 --   PlansRight    "Past the format, fact and limit checks it is accepted exactly when some timetable keeps the standing rules and its own": the
 --                 board's timetables are those that keep the standing rules, and the offer's own are (a) to (e)
 --   NoRoom s n    there are 16 jobs on the state s, or the points would pass 64 with n more;  Full b p o: so, for an offer that is read
+--   Late b p o    the due time is past the horizon, for an offer whose bytes and facts pass
 --   ReportsRight  "and the earliest times reported are the least any such timetable has"
 --   Demand2       all of it, with the other calls, and the rulings over every list
 use mathlib.Core.Path.{_≡_}
@@ -18,7 +19,7 @@ use Rattle.base_rulings.specs.declared.Ruling.the-variants.{Accepted}
 use Rattle.base_rulings.specs.Answer.{refuse}
 use Rattle.read_facts.specs.Forward.{AllRun}
 use Rattle.read_plant.specs.Plant.{plantRuling}
-use Rattle.read_offer.specs.Offer.{knownOf, goalOf, chainOf, offerRuling, factCheck}
+use Rattle.read_offer.specs.Offer.{dueOf, knownOf, goalOf, chainOf, offerRuling, consistencyRuling, factCheck}
 use Rattle.spec_plain.specs.Limits.{mostJobs, mostPoints}
 use Rattle.spec_plain.specs.declared.Settings.{Settings}
 use Rattle.spec_plain.specs.declared.Rule.{Rule}
@@ -45,7 +46,7 @@ FactsRight =
 abbrev pub NoRoom : State → ℕ → Type 0
 NoRoom s n = (length (s .jobs) ≡ mostJobs) ⊎ (mostPoints < total (s .jobs) + n)
 
--- Past 1 to 4, 6, 7 to 13 the offer is `offer`; past 14, 15 and 16 it brings m points and the rules rs, and `next` is the state to be
+-- Past 1 to 4, 6, 7 to 13 and 23 the offer is `offer`; past 14, 15 and 16 it brings m points and the rules rs, and `next` is the state to be
 abbrev pub PlansRight : Board → Type 0
 PlansRight b =
     (p o : List ℕ) (offer : Offer) (next : State) (m : ℕ) (rs : List Rule)
@@ -55,16 +56,24 @@ PlansRight b =
 abbrev pub ReportsRight : Board → Type 0
 ReportsRight b = (k : ℕ) → k < length (rowsOf b) → Tells b (suc k) (getD (rowsOf b) k noRow)
 
--- 14: "There are 16 jobs, or the points would pass 64", for an offer that passes 1 to 4 and 7 to 13
+-- 14: "There are 16 jobs, or the points would pass 64", for an offer that passes 1 to 4, 7 to 13 and 23
 pub record Full (b : Board) (p o : List ℕ) : Type 0 where
   pub offer : Offer
   pub reads : readingOf (stateOf b) p o ≡ good offer
   pub no-room : NoRoom (stateOf b) (newPoints offer)
 
+-- 23, "when the due time is past the horizon", for an offer that passes 1 to 4 and 7 to 10
+pub record Late (b : Board) (p o : List ℕ) : Type 0 where
+  pub plant : plantRuling p ≡ Accepted
+  pub format : offerRuling p o ≡ Accepted
+  pub facts : consistencyRuling o ≡ Accepted
+  pub late : b .settings .horizon < dueOf o
+
 pub record Demand2 : Type 0 where
   pub facts : FactsRight
   pub plans : (b : Board) → Shaped b → Sound b → PlansRight b
   pub fourteens : (b : Board) → Shaped b → Sound b → (p o : List ℕ) → (planned b p o .ruling ≡ refuse 14) ↔ Full b p o
+  pub twenty-threes : (b : Board) → Shaped b → Sound b → (p o : List ℕ) → (planned b p o .ruling ≡ refuse 23) ↔ Late b p o
   pub reports : (b : Board) → Shaped b → Sound b → ReportsRight b
   -- send, past 18: each point of the unsent jobs up to the place stands at its least time
   pub sends :

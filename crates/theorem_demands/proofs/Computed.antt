@@ -2,7 +2,7 @@
 -- is refused here. Assumes nothing.
 --   plant-length, offer-length    the bytes are as many as document 01 says
 --   Computes, AllCompute          what is computed of a case, of each of a list
---   computed, further-computed    both tables compute;  shownOpen: the definitions to unfold for it
+--   computed, further-computed, dues-computed   the tables of calls compute;  shownOpen: the definitions to unfold for it
 --   drafts-computed               the table of limits
 --   plants-computed, parts-computed, offers-computed, spelled-computed   the tables of what is read from bytes
 --   written-computed, held-computed   the tables of what is written
@@ -21,6 +21,7 @@ use Rattle.base_lists.specs.Loops.{allBelow}
 use Rattle.theorem_demands.specs.Shown.{isAccepted, kindOf, sameRuling, sameRulings, readable, sameCells, sameBoards, shown, allShown}
 use Rattle.theorem_demands.specs.ProvingTable.{plant, jobJ, table}
 use Rattle.theorem_demands.specs.FurtherTable.{furtherTable, AllDraft, draftTable}
+use Rattle.theorem_demands.specs.DueTable.{dueTable}
 use Rattle.theorem_demands.specs.ReadingTable.{AllPlants, plantTable, AllParts, partTable, AllOffers, offerTable, AllSpelled, spelledTable}
 use Rattle.theorem_demands.specs.WritingTable.{AllWritten, writeTable, AllHeld, heldTable}
 use Rattle.theorem_demands.proofs.Computing.{computing, writingOpen}
@@ -29,7 +30,7 @@ use Rattle.theorem_demands.proofs.Computing.{computing, writingOpen}
 pub plant-length : length plant ≡ 120
 plant-length = refl
 
-pub offer-length : length (jobJ 0 0) ≡ 36
+pub offer-length : length (jobJ 0 0) ≡ 40
 offer-length = refl
 
 -- what is computed of a case: its horizon is in range, its calls are ruled so, and the board at the end shows what is expected
@@ -73,6 +74,15 @@ further-computed =
     both (refl, refl, refl) (both (refl, refl, refl) (both (refl, refl, refl) (both (refl, refl, refl) (
     both (refl, refl, refl) tt))))))))))))))))))))))))))))))))
 
+pub dues-computed : AllCompute dueTable
+unfolding computing shownOpen trailingZeros
+dues-computed =
+    both (refl, refl, refl) (both (refl, refl, refl) (both (refl, refl, refl) (both (refl, refl, refl) (
+    both (refl, refl, refl) (both (refl, refl, refl) (both (refl, refl, refl) (both (refl, refl, refl) (
+    both (refl, refl, refl) (both (refl, refl, refl) (both (refl, refl, refl) (both (refl, refl, refl) (
+    both (refl, refl, refl) (both (refl, refl, refl) (both (refl, refl, refl) (both (refl, refl, refl) (
+    both (refl, refl, refl) (both (refl, refl, refl) tt)))))))))))))))))
+
 pub drafts-computed : AllDraft draftTable
 unfolding computing
 drafts-computed =
@@ -109,7 +119,11 @@ offers-computed =
     both (refl, refl) (both (refl, refl) (both (refl, refl) (both (refl, refl) (
     both (refl, refl) (both (refl, refl) (both (refl, refl) (both (refl, refl) (
     both (refl, refl) (both (refl, refl) (both (refl, refl) (both (refl, refl) (
-    both (refl, refl) (both (refl, refl) (both (refl, refl) (both (refl, refl) tt)))))))))))))))))))))))))))))))))))))))))))))))
+    both (refl, refl) (both (refl, refl) (both (refl, refl) (both (refl, refl) (
+    both (refl, refl) (both (refl, refl) (both (refl, refl) (both (refl, refl) (
+    both (refl, refl) (both (refl, refl) (both (refl, refl) (both (refl, refl) (
+    both (refl, refl) (both (refl, refl) (both (refl, refl) (both (refl, refl) (
+    both (refl, refl) (both (refl, refl) tt)))))))))))))))))))))))))))))))))))))))))))))))))))))))))))))
 
 pub spelled-computed : AllSpelled spelledTable
 unfolding computing trailingZeros

@@ -16,11 +16,12 @@ use Rattle.read_plant.specs.Plant.{recordAt, recordRuling, plantRuling}
 use Rattle.read_offer.specs.Offer.{knownOf, goalOf, stepStart, stepAt, stepRuling, offerRuling, actionOf, chainFrom, consistencyRuling, chainRuling, factCheck}
 use Rattle.write_plant.specs.Written.{actionRuling, actionsRuling}
 use Rattle.write_plant.specs.Lent.{writeRuling, writtenLength, writtenInto}
-use Rattle.spec_plain.specs.Plain.{total, liveCount, notBefore, notAfter, overBy, inOrder, durations, orElse, afterNewest, batchRules, full, joining}
+use Rattle.spec_plain.specs.Plain.{total, liveCount, notBefore, notAfter, overBy, inOrder, durations, orElse, afterNewest, batchRules, dueRules, full, joining}
 use Rattle.spec_plain.specs.Plain.{drafted, inserted, ruleBefore, ruleAfter, usedFrom, placed, unsentAt, range, unsentPoints, sentUpTo, sentState, freeze}
 use Rattle.spec_plain.specs.Plain.{clockOk, clockState, starts, goes, newNumber, staying, without, endsBy, allEndBy, leavingFrom, leaving}
 use Rattle.spec_stn.specs.Table.{earliest, latest, add, addAll, entailsAll, grow, growAll, pick, oldNumber}
-use Rattle.spec_rulebook.specs.Reading.{recordOf, stepOf, allocationOf, stepsFrom, allocationsOfStep, allocationsFrom, offerOf, past, readingOf}
+use Rattle.spec_rulebook.specs.Reading.{recordOf, stepOf, allocationOf, stepsFrom, allocationsOfStep, allocationsFrom, offerOf}
+use Rattle.spec_rulebook.specs.Reading.{dueRuling, planCheck, past, readingOf}
 use Rattle.spec_rulebook.specs.Book as Rulebook
 use Rattle.theorem_demands.specs.Model.{refusedWith, settled, decided, heard, departed, step}
 use Rattle.theorem_demands.specs.Model as Model
@@ -44,7 +45,8 @@ unfolding knownOf goalOf stepStart stepAt stepRuling offerRuling actionOf chainF
 offerOpen = tt
 
 unfoldable pub readingOpen : Unit {0}
-unfolding plantOpen factsOpen offerOpen recordOf stepOf allocationOf stepsFrom allocationsOfStep allocationsFrom offerOf past readingOf
+unfolding plantOpen factsOpen offerOpen recordOf stepOf allocationOf stepsFrom allocationsOfStep allocationsFrom offerOf dueRuling planCheck past
+    readingOf
 readingOpen = tt
 
 unfoldable pub writingOpen : Unit {0}
@@ -56,7 +58,7 @@ unfolding inOrder inserted ruleBefore ruleAfter usedFrom placed
 placeOpen = tt
 
 unfoldable pub planOpen : Unit {0}
-unfolding placeOpen total liveCount notBefore notAfter durations orElse afterNewest batchRules full joining drafted
+unfolding placeOpen total liveCount notBefore notAfter durations orElse afterNewest batchRules dueRules full joining drafted
 planOpen = tt
 
 unfoldable pub sendOpen : Unit {0}

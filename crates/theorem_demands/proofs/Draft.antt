@@ -17,7 +17,7 @@ use Rattle.spec_plain.specs.declared.Rule.{Rule}
 use Rattle.spec_plain.specs.declared.Step.{Step}
 use Rattle.spec_plain.specs.declared.Use.{Use}
 use Rattle.spec_plain.specs.Plain.{Offer, State, Placed, Draft, total, liveCount, notBefore, durations, full, newPoints, jobFrom, placed, joining, drafted}
-use Rattle.spec_plain.specs.Plain.{withJobs, withLines, trayGap, jobBatch, orElse, afterNewest, batchRules}
+use Rattle.spec_plain.specs.Plain.{withJobs, withLines, trayGap, jobBatch, orElse, afterNewest, batchRules, dueRules, notAfter, lastPoint}
 use Rattle.read_plant.specs.Plant.{allocationCount}
 use Rattle.read_offer.specs.Offer.{stepCount}
 use Rattle.spec_stn.specs.Table.{bias, Table, Still, Within}
@@ -26,7 +26,7 @@ use Rattle.theorem_demands.specs.Beside.{Each, StillJobs, LinesOfLive, A
 use Rattle.theorem_demands.proofs.Jobs.{each-append, total-append, jobs-append}
 use Rattle.theorem_demands.proofs.Lines.{lines-wider, within-append, PutsIn, PlacedIn, placed-in}
 
--- ---- rules (c) and (e)
+-- ---- rules (c) and (e), and of the due time
 
 durations-in : (n x : ℕ) (ss : List Step) → x + length ss < n → Within n (durations x ss)
 unfolding Within durations
@@ -56,6 +56,14 @@ batch-in n d b last js h le jobs = go (eqb b 0)
     go : (q : Bool) → Within n (cond q [] (afterNewest d b last 1 js))
     go true = tt
     go false = newest-in n d b last 1 js h le jobs
+
+due-in : (n q last : ℕ) → 0 < n → last < n → Within n (dueRules q last)
+unfolding Within dueRules notAfter
+due-in n q last some h = go (eqb q 0)
+  where
+    go : (t : Bool) → Within n (cond t [] (notAfter last q ∷ []))
+    go true = tt
+    go false = (h, some, tt)
 
 -- ---- offers
 
@@ -105,25 +113,29 @@ next-live : (s : State) (o : Offer) (ls : List (List Use)) → liveCount (nextOf
 unfolding liveCount total
 next-live s o ls = omega (arith, total-append (s .jobs) (jobFrom o ∷ []))
 
--- rules (b) to (e), with those that placing made
+-- rules (b) to (e) and of the due time, with those that placing made
 abbrev newRules : State → Offer → List Rule → List Rule
 newRules s o rs =
     notBefore (liveCount s) (s .clock + s .settings .lead)
     ∷ durations (liveCount s) (o .steps) ++ rs
-    ++ batchRules (trayGap (s .settings)) (jobBatch (jobFrom o)) (liveCount s + length (o .steps)) (s .jobs)
+    ++ (batchRules (trayGap (s .settings)) (jobBatch (jobFrom o)) (lastPoint s o) (s .jobs) ++ dueRules (o .due) (lastPoint s o))
 
 module _
     (s : State) (o : Offer) (lines : LinesOfLive (liveCount s) (s .lines)) (jobs : AllHavePoints (s .jobs)) (small : s .settings .horizon ≤ bias)
   where
     rules-in : (n : ℕ) (rs : List Rule) → n ≡ liveCount s + newPoints o → Within n rs → Within n (newRules s o rs)
     unfolding Within notBefore liveCount
-    rules-in n rs e w = (
-      omega arith,
-      omega arith,
-      within-append n (durations (liveCount s) (o .steps) ++ rs) _
-          (within-append n (durations (liveCount s) (o .steps)) rs (durations-in n (liveCount s) (o .steps) (omega arith)) w)
-          (batch-in n (trayGap (s .settings)) (jobBatch (jobFrom o)) (liveCount s + length (o .steps)) (s .jobs) (omega arith) (omega arith) jobs),
-    )
+    rules-in n rs e w =
+        let last = lastPoint s o in
+        let by-batch = batchRules (trayGap (s .settings)) (jobBatch (jobFrom o)) last (s .jobs) in (
+          omega arith,
+          omega arith,
+          within-append n (durations (liveCount s) (o .steps) ++ rs) _
+              (within-append n (durations (liveCount s) (o .steps)) rs (durations-in n (liveCount s) (o .steps) (omega arith)) w)
+              (within-append n by-batch (dueRules (o .due) last)
+              (batch-in n (trayGap (s .settings)) (jobBatch (jobFrom o)) last (s .jobs) (omega arith) (omega arith) jobs)
+              (due-in n (o .due) last (omega arith) (omega arith))),
+        )
 
     joining-in : (q : Placed) → PlacedIn (liveCount s + newPoints o) q → DraftIn s (joining s o q)
     unfolding DraftIn joining PlacedIn AllHavePoints Each

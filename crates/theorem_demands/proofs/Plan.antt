@@ -11,11 +11,9 @@ use Rattle.base_rulings.specs.declared.Ruling.the-variants.{Accepted, Refused}
 use Rattle.spec_plain.specs.declared.Rule.{Rule}
 use Rattle.spec_plain.specs.Plain
 use Rattle.spec_plain.specs.Rules.{Times, RuleOn}
-use Rattle.read_offer.specs.Offer.{factCheck}
 use Rattle.spec_stn.specs.Table.{Table, Closed, Fits, addAll, growAll}
 use Rattle.spec_stn.proofs.Grow.{growAll-closed, growAll-fits}
-use Rattle.spec_rulebook.specs.Reading.{Reading, good, offerOf, past, readingOf}
-use Rattle.spec_rulebook.proofs.Reading.{reading-rules}
+use Rattle.spec_rulebook.specs.Reading.{Reading, good, offerOf, planCheck, past, readingOf}
 use Rattle.spec_rulebook.specs.Book.{Point, made, Settles, Plans, Reads}
 use Rattle.theorem_demands.specs.Model.{book, board, settled, decided, heard}
 use Rattle.theorem_demands.specs.Beside.{StillJobs, StandsFor, Mirrors}
@@ -64,8 +62,8 @@ module _ {s : Plain.State} {c : Table} {rs : List (RuleOn Point)} (h : StandsFor
   Read x = Mirrors (Reads (book s rs) x) (heard (board s c) x)
 
   pub read-mirrors : (p o : List ℕ) → Read (readingOf s p o)
-  unfolding past Reads heard
-  read-mirrors p o = subst Read (sym (reading-rules s p o)) (go (factCheck p o))
+  unfolding readingOf past Reads heard
+  read-mirrors p o = go (planCheck s p o)
     where
       go : (r : Ruling) → Read (past r (good (offerOf p o)))
       go Accepted = plan-mirrors (Plain.drafted s (offerOf p o)) (drafted-in s (offerOf p o) (h .lines) (h .jobs) (h .small) (offer-in p o))

@@ -7,6 +7,7 @@ use mathlib.Core.Path.{_≡_, refl, ap, ap₂, sym, subst, _∙_}
 use mathlib.Core.Logic.{_↔_}
 use mathlib.Core.Bool.{true, true≢false, not}
 use mathlib.Core.List.{List, [], _∷_}
+use lib.ListN.{length, getD}
 use Prim.Native.Nat.{ℕ, zero, suc, _<_}
 use lib.Dec.{eqb, ltb, leb}
 use lib.IntN.{subℕ}
@@ -29,7 +30,7 @@ use Rattle.theorem_demands.specs.Model.{Board, book}
 use Rattle.theorem_demands.specs.Model as Model
 use Rattle.theorem_demands.specs.Beside.{Sim}
 use Rattle.theorem_demands.specs.Tidy as Tidy
-use Rattle.theorem_demands.specs.Cases.{Expect, earliest, latest, runs, fails, same, Meets, AllMeet, EqualTables}
+use Rattle.theorem_demands.specs.Cases.{Expect, earliest, latest, runs, fails, due, same, Meets, AllMeet, EqualTables}
 use Rattle.theorem_demands.specs.Shown.{isAccepted, kindOf, sameRuling, sameRulings, readable, sameCells, sameBoards, shown, allShown}
 use Rattle.theorem_demands.proofs.Values.{least-at, greatest-at, sim-gap}
 use Rattle.theorem_demands.proofs.Tries.{turned}
@@ -135,6 +136,10 @@ module _ (b : Board) (k : Book) (m : Sim b k) where
   shown-meets (fails p o) e =
       let q = both-true (readable p o) _ e in
       λ run. refused-is (factCheck p o) (q .1) (readable-right p o (q .0) .1 run)
+  shown-meets (due place q) e =
+      let p = both-true (ltb place (length (b .state .jobs))) _ e in
+      let jobs : k .state .jobs ≡ b .state .jobs = ap (λ (s : Plain.State). s .jobs) (m .state) in
+      rw jobs (ltb-true _ _ (p .0), eqb-true _ _ (p .1))
   shown-meets (same s cs rs) e =
       let end = Tidy.boardAfter (Model.fresh s) cs in
       let ruled = Tidy.rulings (Model.fresh s) cs in

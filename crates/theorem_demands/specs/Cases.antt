@@ -12,11 +12,12 @@ use mathlib.Core.Logic.{_↔_}
 use mathlib.Core.List.{List, [], _∷_}
 use Prim.Native.Nat.{ℕ, _<_}
 use lib.IntN.{ℤ}
+use lib.ListN.{length, getD}
 use Rattle.base_rulings.specs.declared.Ruling.{Ruling}
 use Rattle.read_facts.specs.Forward.{AllRun}
 use Rattle.read_offer.specs.Offer.{knownOf, goalOf, chainOf}
 use Rattle.spec_plain.specs.declared.Settings.{Settings}
-use Rattle.spec_plain.specs.Plain.{liveCount}
+use Rattle.spec_plain.specs.Plain.{liveCount, newJob}
 use Rattle.spec_plain.specs.Rules.{Times}
 use Rattle.spec_rulebook.specs.Book.{Book, Call, Possible, Least, Greatest, Gap, Runs, fresh}
 
@@ -27,6 +28,8 @@ pub data Expect : Type 0 where
   -- by the forward definition of facts the offer's chain reaches its goal from every full state that fits, on this plant; or not
   runs : List ℕ → List ℕ → Expect
   fails : List ℕ → List ℕ → Expect
+  -- the record of the job at this place of the list keeps this due time
+  due : ℕ → ℕ → Expect
   -- on a board with these settings these calls have these rulings, and come to an equal table
   same : Settings → List Call → List Ruling → Expect
 
@@ -49,6 +52,7 @@ Meets k (earliest x v) = Least k x v
 Meets k (latest x v) = Greatest k x v
 Meets k (runs p o) = AllRun (knownOf o) (chainOf p o) (goalOf o)
 Meets k (fails p o) = ¬ (AllRun (knownOf o) (chainOf p o) (goalOf o))
+Meets k (due place q) = (place < length (k .state .jobs)) × (getD (k .state .jobs) place (newJob 0 0 0) .due ≡ q)
 Meets k (same s cs rs) = RunsTo s cs rs (EqualTables k)
 
 abbrev pub AllMeet : Book → List Expect → Type 0

@@ -1,6 +1,7 @@
 -- Cases of our own in the form of the proving table, for what document 01's cases do not show.
 --   action t n us       the record of an action without facts, of t ms and with the n allocations us
 --   offer b n ws        an offer without facts in batch b, of n steps that ws spells: an action and its places for each
+--   withWord at n s     bytes with another u32 at a place
 --   twice, long         plants of one action each
 --   trailing, elastic   plants of two actions;  trails p q: a plan of both of the first, with the places of its uses;  stretches n ws: a plan of the second
 --   crossing            a plant of one action that uses two resources;  crosses p q: a plan of it, with its places in their lines
@@ -14,11 +15,11 @@
 use mathlib.Core.Path.{_≡_}
 use mathlib.Core.List.{List, [], _∷_, _++_, map}
 use Prim.Native.Nat.{ℕ, zero, suc, _+_}
-use lib.ListN.{length}
+use lib.ListN.{length, take, drop}
 use Rattle.base_rulings.specs.declared.Ruling.{Ruling}
 use Rattle.base_rulings.specs.declared.Ruling.the-variants.{Accepted, Refused}
 use Rattle.base_rulings.specs.Answer.{refuse, refused}
-use Rattle.base_words.specs.Word.{u32s}
+use Rattle.base_words.specs.Word.{u32, u32s}
 use Rattle.write_plant.specs.Written.{fileOf}
 use Rattle.spec_plain.specs.declared.Allocation.{Allocation}
 use Rattle.spec_plain.specs.Plain.{State, Offer, Draft, withJobs, withLines, newJob, drafted}
@@ -32,7 +33,10 @@ abbrev pub action : ℕ → ℕ → List ℕ → List ℕ
 action t n us = u32s (0 ∷ 0 ∷ 0 ∷ 0 ∷ t ∷ t ∷ []) ++ (n ∷ 0 ∷ 0 ∷ 0 ∷ []) ++ u32s us
 
 abbrev pub offer : ℕ → ℕ → List ℕ → List ℕ
-offer b n ws = u32s (b ∷ 0 ∷ 0 ∷ 0 ∷ 0 ∷ n ∷ []) ++ u32s ws
+offer b n ws = u32s (b ∷ 0 ∷ 0 ∷ 0 ∷ 0 ∷ n ∷ 0 ∷ []) ++ u32s ws
+
+abbrev pub withWord : ℕ → ℕ → List ℕ → List ℕ
+withWord at n s = take at s ++ u32 n ++ drop (at + 4) s
 
 -- 40 ms, with two uses of resource 0: 0 to 10 and 20 to 30
 abbrev pub twice : List ℕ
@@ -203,15 +207,15 @@ AllDraft (c ∷ cs) = Drafts c × AllDraft cs
 -- jobs of so many points, and a line of resource 0 that holds so many uses
 abbrev stateWith : List ℕ → ℕ → State
 stateWith points uses =
-    withLines (withJobs (fresh (settingsFrom 1000 5) .state) (map (λ (n : ℕ). newJob n 0) points))
+    withLines (withJobs (fresh (settingsFrom 1000 5) .state) (map (λ (n : ℕ). newJob n 0 0) points))
     (times uses (record { point = 1; offset = 0; length = 1 }) ∷ times 15 [])
 
 -- steps of 1 ms: one, with these allocations; two, without any
 abbrev offerWith : List Allocation → Offer
-offerWith ps = record { batch = 0; steps = record { shortest = 1; longest = 1 } ∷ []; allocations = ps }
+offerWith ps = record { batch = 0; due = 0; steps = record { shortest = 1; longest = 1 } ∷ []; allocations = ps }
 
 abbrev offerOfTwo : Offer
-offerOfTwo = record { batch = 0; steps = times 2 (record { shortest = 1; longest = 1 }); allocations = [] }
+offerOfTwo = record { batch = 0; due = 0; steps = times 2 (record { shortest = 1; longest = 1 }); allocations = [] }
 
 abbrev placedAt : ℕ → Allocation
 placedAt p = record { resource = 0; place = p; step = 0; offset = 0; length = 1 }

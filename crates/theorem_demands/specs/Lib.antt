@@ -5,6 +5,7 @@ pub mod Sent
 pub mod Cases
 pub mod ProvingTable
 pub mod FurtherTable
+pub mod DueTable
 pub mod ReadingTable
 pub mod WritingTable
 pub mod Shown

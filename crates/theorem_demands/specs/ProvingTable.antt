@@ -1,7 +1,7 @@
 -- The proving table of document 01, cases a to i and k to n, from bytes.
 --   plant         "A0 needs fact 0, makes 1 true and 0 false, 10 to 20 ms, resource 0, offset 0, length 10. A1 needs 1, makes 2 true and
 --                 1 false, 5 to 5. A2 needs 3, makes none, 1 to 1. It has 120 bytes, index at 96."
---   jobJ b place  "Job J: fact 0 known true, goal fact 2 true, A0 A1", in batch b, with this place
+--   jobJ b place  "Job J: fact 0 known true, goal fact 2 true, A0 A1", in batch b, with this place; like all offers here without a due time
 --   settingsFrom  a board's H and D;  usual: a case on the usual board
 --   table         document 01's cases; cases of our own, for what those do not show: FurtherTable
 -- Point 0 is the origin; where the first job is J, its points are 1, 2, 3, and the second job's start is 4.
@@ -37,29 +37,29 @@ plant =
     ++ u32s (0 ∷ 40 ∷ 68 ∷ [])
     ++ u32s (96 ∷ 3 ∷ []) ++ (0x50 ∷ 0x4C ∷ 0x4E ∷ 0x54 ∷ [])
 
--- batch, known-true, known-false, goal-true, goal-false, step count; per step its action and the places of its allocations
+-- batch, known-true, known-false, goal-true, goal-false, step count, due time; per step its action and the places of its allocations
 abbrev pub jobJ : ℕ → ℕ → List ℕ
-jobJ b place = u32s (b ∷ fact0 ∷ 0 ∷ fact2 ∷ 0 ∷ 2 ∷ []) ++ u32s (0 ∷ place ∷ []) ++ u32s (1 ∷ [])
+jobJ b place = u32s (b ∷ fact0 ∷ 0 ∷ fact2 ∷ 0 ∷ 2 ∷ 0 ∷ []) ++ u32s (0 ∷ place ∷ []) ++ u32s (1 ∷ [])
 
 -- J's goal by A1 A0
 abbrev pub offerB : List ℕ
-offerB = u32s (0 ∷ fact0 ∷ 0 ∷ fact2 ∷ 0 ∷ 2 ∷ []) ++ u32s (1 ∷ []) ++ u32s (0 ∷ 0 ∷ [])
+offerB = u32s (0 ∷ fact0 ∷ 0 ∷ fact2 ∷ 0 ∷ 2 ∷ 0 ∷ []) ++ u32s (1 ∷ []) ++ u32s (0 ∷ 0 ∷ [])
 
 -- goal facts 0 and 2
 abbrev pub offerC : List ℕ
-offerC = u32s (0 ∷ fact0 ∷ 0 ∷ 5 ∷ 0 ∷ 2 ∷ []) ++ u32s (0 ∷ 0 ∷ []) ++ u32s (1 ∷ [])
+offerC = u32s (0 ∷ fact0 ∷ 0 ∷ 5 ∷ 0 ∷ 2 ∷ 0 ∷ []) ++ u32s (0 ∷ 0 ∷ []) ++ u32s (1 ∷ [])
 
 -- goal fact 3 false, A2
 abbrev pub offerD : List ℕ
-offerD = u32s (0 ∷ 0 ∷ 0 ∷ 0 ∷ fact3 ∷ 1 ∷ []) ++ u32s (2 ∷ [])
+offerD = u32s (0 ∷ 0 ∷ 0 ∷ 0 ∷ fact3 ∷ 1 ∷ 0 ∷ []) ++ u32s (2 ∷ [])
 
 -- goal fact 0 false, A0 alone, fact 0 known true
 abbrev pub offerE : List ℕ
-offerE = u32s (0 ∷ fact0 ∷ 0 ∷ 0 ∷ fact0 ∷ 1 ∷ []) ++ u32s (0 ∷ 0 ∷ [])
+offerE = u32s (0 ∷ fact0 ∷ 0 ∷ 0 ∷ fact0 ∷ 1 ∷ 0 ∷ []) ++ u32s (0 ∷ 0 ∷ [])
 
 -- A2 in a batch, with fact 3 known and wanted
 abbrev pub offerM : ℕ → List ℕ
-offerM b = u32s (b ∷ fact3 ∷ 0 ∷ fact3 ∷ 0 ∷ 1 ∷ []) ++ u32s (2 ∷ [])
+offerM b = u32s (b ∷ fact3 ∷ 0 ∷ fact3 ∷ 0 ∷ 1 ∷ 0 ∷ []) ++ u32s (2 ∷ [])
 
 -- a board's H and D
 abbrev pub settingsFrom : ℕ → ℕ → Settings

@@ -1,9 +1,10 @@
 -- What is read from bytes, case by case: plant files, the parts that they hand out, and offers. For what document 01's cases do not show: limits at
 -- their value and one past it, the fields of a record, high bytes, and the order of refusals.
---   withByte, withWord  bytes with another byte, with another u32, at a place
+--   withByte at b s     bytes with another byte at a place
 --   PlantCase           a plant file and its ruling;  plantTable: its cases, by refusals
 --   PartCase            a plant file, an action, and the part that holds its allocations;  partTable: its cases
---   OfferCase           a plant file, an offer, and its ruling by the fact check and by the rule book's reading alike;  offerTable: its cases
+--   OfferCase           a plant file, an offer, its ruling by the fact check, and its ruling by a plan's reading on a board of horizon 1000;
+--                       checked: where the two are alike;  apart: where they are not;  offerTable: its cases
 --   SpelledCase         a plant file, an offer's bytes, and the offer that they spell;  spelledTable: its cases
 --   AllPlants, AllParts, AllOffers, AllSpelled   each of a list of cases is so
 use mathlib.Core.Path.{_≡_}
@@ -20,16 +21,14 @@ use Rattle.spec_plain.specs.declared.Allocation.{Allocation}
 use Rattle.spec_plain.specs.Plain.{Offer}
 use Rattle.spec_rulebook.specs.Reading.{Reading, bad, good, readingOf}
 use Rattle.spec_rulebook.specs.Book.{fresh}
-use Rattle.base_words.specs.Word.{u32, u32s}
+use Rattle.base_words.specs.Word.{u32s}
 use Rattle.write_plant.specs.Written.{joined, mark, fileOf}
-use Rattle.theorem_demands.specs.ProvingTable.{plant, jobJ, settingsFrom}
-use Rattle.theorem_demands.specs.FurtherTable.{times, action, offer}
+use Rattle.theorem_demands.specs.ProvingTable.{plant, jobJ, offerB, offerC, offerD, settingsFrom}
+use Rattle.theorem_demands.specs.FurtherTable.{times, action, offer, withWord}
+use Rattle.theorem_demands.specs.DueTable.{dueBy}
 
 abbrev pub withByte : ℕ → ℕ → List ℕ → List ℕ
 withByte at b s = set s at b
-
-abbrev pub withWord : ℕ → ℕ → List ℕ → List ℕ
-withWord at n s = take at s ++ u32 n ++ drop (at + 4) s
 
 -- an action by its masks, needs and then makes, of 1 ms and without allocations
 abbrev changing : ℕ → ℕ → ℕ → ℕ → List ℕ
@@ -171,61 +170,66 @@ partTable =
 pub record OfferCase : Type 0 where
   pub plantBytes : List ℕ
   pub offerBytes : List ℕ
-  pub ruling : Ruling
+  pub byCheck : Ruling
+  pub byPlan : Ruling
 
--- what the rule book reads: it rules as the fact check does
 abbrev readingRuling : Reading → Ruling
 readingRuling (bad c) = Refused c
 readingRuling (good o) = Accepted
 
-abbrev readingAtStart : List ℕ → List ℕ → Reading
-readingAtStart p o = readingOf (fresh (settingsFrom 1000 5) .state) p o
+-- on a fresh board of the horizon H
+abbrev readingOn : ℕ → List ℕ → List ℕ → Reading
+readingOn H p o = readingOf (fresh (settingsFrom H 5) .state) p o
 
 abbrev pub AllOffers : List OfferCase → Type 0
 AllOffers [] = Unit {0}
 AllOffers (c ∷ cs) =
-    ((factCheck (c .plantBytes) (c .offerBytes) ≡ c .ruling)
-    × (readingRuling (readingAtStart (c .plantBytes) (c .offerBytes)) ≡ c .ruling))
+    ((factCheck (c .plantBytes) (c .offerBytes) ≡ c .byCheck)
+    × (readingRuling (readingOn 1000 (c .plantBytes) (c .offerBytes)) ≡ c .byPlan))
     × AllOffers cs
 
-abbrev checked : List ℕ → List ℕ → Ruling → OfferCase
-checked p o r = record { plantBytes = p; offerBytes = o; ruling = r }
+abbrev apart : List ℕ → List ℕ → Ruling → Ruling → OfferCase
+apart p o r q = record { plantBytes = p; offerBytes = o; byCheck = r; byPlan = q }
 
--- job J has 36 bytes: A0 at 24, its place at 28, A1 at 32
+abbrev checked : List ℕ → List ℕ → Ruling → OfferCase
+checked p o r = apart p o r r
+
+-- job J has 40 bytes: its due time at 24, A0 at 28, its place at 32, A1 at 36
 abbrev pub layouts : List OfferCase
 layouts =
     checked plant (jobJ 0 0) Accepted
-    -- 7: under 24 bytes; 1 to 8 steps
-    ∷ checked plant (take 23 (jobJ 0 0)) (refuse 7)
+    -- 7: under 28 bytes, also where 24 of them make a header; 1 to 8 steps
+    ∷ checked plant (take 27 (jobJ 0 0)) (refuse 7)
+    ∷ checked plant (take 24 (jobJ 0 0)) (refuse 7)
     ∷ checked plant (offer 0 0 []) (refuse 7)
     ∷ checked (fileOf (action 10 0 [] ∷ [])) (offer 0 8 (times 8 0)) Accepted
     ∷ checked (fileOf (action 10 0 [] ∷ [])) (offer 0 9 (times 9 0)) (refuse 7)
     ∷ checked plant (withWord 20 257 (jobJ 0 0)) (refuse 7)
     -- 8: no step, an action number cut off, a place cut off, in step 1 too
-    ∷ checked plant (take 24 (jobJ 0 0)) (refused 8 0)
-    ∷ checked plant (take 27 (jobJ 0 0)) (refused 8 0)
+    ∷ checked plant (take 28 (jobJ 0 0)) (refused 8 0)
     ∷ checked plant (take 31 (jobJ 0 0)) (refused 8 0)
-    ∷ checked plant (take 35 (jobJ 0 0)) (refused 8 1)
+    ∷ checked plant (take 35 (jobJ 0 0)) (refused 8 0)
+    ∷ checked plant (take 39 (jobJ 0 0)) (refused 8 1)
     -- the plant has no action 3
-    ∷ checked plant (withWord 32 3 (jobJ 0 0)) (refused 8 1)
-    ∷ checked plant (withWord 32 256 (jobJ 0 0)) (refused 8 1)
+    ∷ checked plant (withWord 36 3 (jobJ 0 0)) (refused 8 1)
+    ∷ checked plant (withWord 36 256 (jobJ 0 0)) (refused 8 1)
     -- 9: a byte left over
     ∷ checked plant (jobJ 0 0 ++ (0 ∷ [])) (refuse 9)
     -- the plant comes before the offer: 1, 2 and 4 before 7
-    ∷ checked (withByte 119 0 plant) (take 23 (jobJ 0 0)) (refuse 1)
-    ∷ checked (withWord 112 0 plant) (take 23 (jobJ 0 0)) (refuse 2)
-    ∷ checked (withWord 16 0 plant) (take 23 (jobJ 0 0)) (refused 4 0)
+    ∷ checked (withByte 119 0 plant) (take 27 (jobJ 0 0)) (refuse 1)
+    ∷ checked (withWord 112 0 plant) (take 27 (jobJ 0 0)) (refuse 2)
+    ∷ checked (withWord 16 0 plant) (take 27 (jobJ 0 0)) (refused 4 0)
     -- 7 comes before 8 and before 9, 8 before 9, 9 before 10, and 10 before 11
     ∷ checked plant (withWord 20 9 (jobJ 0 0)) (refuse 7)
     ∷ checked plant (withWord 20 0 (jobJ 0 0)) (refuse 7)
-    ∷ checked plant (withWord 24 3 (jobJ 0 0)) (refused 8 0)
+    ∷ checked plant (withWord 28 3 (jobJ 0 0)) (refused 8 0)
     ∷ checked plant (withWord 8 1 (jobJ 0 0 ++ (0 ∷ []))) (refuse 9)
     ∷ checked plant (withWord 16 4 (withWord 4 0 (jobJ 0 0))) (refuse 10)
     ∷ []
 
 -- facts known and wanted, and the actions of the steps, none with an allocation
 abbrev wanting : ℕ → ℕ → ℕ → ℕ → List ℕ → List ℕ
-wanting kt kf gt gf chain = u32s (0 ∷ kt ∷ kf ∷ gt ∷ gf ∷ length chain ∷ []) ++ u32s chain
+wanting kt kf gt gf chain = u32s (0 ∷ kt ∷ kf ∷ gt ∷ gf ∷ length chain ∷ 0 ∷ []) ++ u32s chain
 
 -- four actions: 0 needs fact 0 true and 1 false, and makes 2 true and 3 false; 1 needs 2 true and 3 false, and makes 1 true and 0 false;
 -- 2 needs and makes nothing; 3 needs 0 true and 1 false, and makes them so
@@ -273,8 +277,26 @@ chains =
     ∷ checked changes (wanting 1 0 1 2 (3 ∷ [])) (refused 13 1)
     ∷ []
 
+-- 23 is tested by plan alone, past 1 to 4 and 7 to 10 and before 11 to 13
+abbrev pub dues : List OfferCase
+dues =
+    apart plant (dueBy 1001 (jobJ 0 0)) Accepted (refuse 23)
+    ∷ checked plant (dueBy 1000 (jobJ 0 0)) Accepted
+    ∷ apart plant (dueBy 4294967295 (jobJ 0 0)) Accepted (refuse 23)
+    ∷ checked (withByte 119 0 plant) (dueBy 1001 (jobJ 0 0)) (refuse 1)
+    ∷ checked (withWord 16 0 plant) (dueBy 1001 (jobJ 0 0)) (refused 4 0)
+    ∷ checked plant (dueBy 1001 (withWord 20 9 (jobJ 0 0))) (refuse 7)
+    ∷ checked plant (dueBy 1001 (withWord 28 3 (jobJ 0 0))) (refused 8 0)
+    ∷ checked plant (dueBy 1001 (jobJ 0 0 ++ (0 ∷ []))) (refuse 9)
+    ∷ checked plant (dueBy 1001 (withWord 16 4 (jobJ 0 0))) (refuse 10)
+    ∷ checked plant (dueBy 1001 (withWord 8 1 (jobJ 0 0))) (refuse 10)
+    ∷ apart plant (dueBy 1001 offerC) (refused 11 0) (refuse 23)
+    ∷ apart plant (dueBy 1001 offerD) (refused 12 0) (refuse 23)
+    ∷ apart plant (dueBy 1001 offerB) (refused 13 1) (refuse 23)
+    ∷ []
+
 abbrev pub offerTable : List OfferCase
-offerTable = layouts ++ chains
+offerTable = layouts ++ chains ++ dues
 
 -- ---- an offer as it is read
 
@@ -285,7 +307,7 @@ pub record SpelledCase : Type 0 where
 
 abbrev pub AllSpelled : List SpelledCase → Type 0
 AllSpelled [] = Unit {0}
-AllSpelled (c ∷ cs) = (readingAtStart (c .plantBytes) (c .offerBytes) ≡ good (c .spelled)) × AllSpelled cs
+AllSpelled (c ∷ cs) = (readingOn 100000000 (c .plantBytes) (c .offerBytes) ≡ good (c .spelled)) × AllSpelled cs
 
 abbrev lasts : ℕ → ℕ → Step
 lasts short long = record { shortest = short; longest = long }
@@ -293,15 +315,16 @@ lasts short long = record { shortest = short; longest = long }
 abbrev taking : ℕ → ℕ → ℕ → ℕ → ℕ → Allocation
 taking r p k a l = record { resource = r; place = p; step = k; offset = a; length = l }
 
--- each step's durations, each allocation's resource, offset and length from the plant, and its place and step from the offer
+-- batch and due time, each step's durations, each allocation's resource, offset and length from the plant, and its place and step from the offer
 abbrev pub spelledTable : List SpelledCase
 spelledTable =
     record {
       plantBytes = withWord 20 11 mixed;
-      offerBytes = offer 77 3 (1 ∷ 20 ∷ 21 ∷ 22 ∷ 0 ∷ 23 ∷ 1 ∷ 24 ∷ 25 ∷ 26 ∷ []);
+      offerBytes = dueBy 67305985 (offer 77 3 (1 ∷ 20 ∷ 21 ∷ 22 ∷ 0 ∷ 23 ∷ 1 ∷ 24 ∷ 25 ∷ 26 ∷ []));
       spelled =
           record {
             batch = 77;
+            due = 67305985;
             steps = lasts 30 30 ∷ lasts 10 11 ∷ lasts 30 30 ∷ [];
             allocations =
                 taking 4 20 0 5 6

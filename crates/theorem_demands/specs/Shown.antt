@@ -8,6 +8,7 @@
 --   shown b x       the board b shows what x expects;  allShown: each of a list
 use mathlib.Core.Bool.{Bool, true, false, not, _&&_}
 use mathlib.Core.List.{List, [], _∷_}
+use lib.ListN.{length, getD}
 use Prim.Native.Nat.{ℕ}
 use lib.Dec.{eqb, ltb, leb}
 use Rattle.base_masks.specs.Mask.{share}
@@ -24,7 +25,7 @@ use Rattle.spec_stn.specs.Table.{bias, Table}
 use Rattle.theorem_demands.specs.Model.{Board}
 use Rattle.theorem_demands.specs.Model as Model
 use Rattle.theorem_demands.specs.Tidy as Tidy
-use Rattle.theorem_demands.specs.Cases.{Expect, earliest, latest, runs, fails, same}
+use Rattle.theorem_demands.specs.Cases.{Expect, earliest, latest, runs, fails, due, same}
 
 unfoldable pub isAccepted : Ruling → Bool
 isAccepted Accepted = true
@@ -64,6 +65,7 @@ shown b (earliest x v) = ltb x (Plain.liveCount (b .state)) && eqb (Gaps.earlies
 shown b (latest x v) = ltb x (Plain.liveCount (b .state)) && eqb (Gaps.latest (b .table) x) v
 shown b (runs p o) = readable p o && isAccepted (factCheck p o)
 shown b (fails p o) = readable p o && not (isAccepted (factCheck p o))
+shown b (due place q) = ltb place (length (b .state .jobs)) && eqb (getD (b .state .jobs) place (Plain.newJob 0 0 0) .due) q
 shown b (same s cs rs) =
     leb (s .horizon) bias && (sameRulings (Tidy.rulings (Model.fresh s) cs) rs && sameBoards b (Tidy.boardAfter (Model.fresh s) cs))
 

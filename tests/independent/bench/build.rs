@@ -16,6 +16,11 @@ fn main() {
     for call in alike.lines() {
         println!("cargo:rustc-env=ALIKE_{call}=yes");
     }
+    // Its layout: how many words a board has, and whether offers have due times.
+    let layout = fs::read_to_string(earlier.join("layout")).expect("a file with the layout");
+    for value in layout.lines() {
+        println!("cargo:rustc-env=EARLIER_{value}");
+    }
 }
 
 fn folder_in(variable: &str) -> Option<PathBuf> {

@@ -1,4 +1,4 @@
-//! Boards as a call log and the C interface hand them over: 5,829 words, which may be any.
+//! Boards as a call log and the C interface hand them over: 5,845 words, which may be any.
 
 pub mod definition;
 pub mod fast;
@@ -14,6 +14,7 @@ use std::array;
 pub use definition::Definition;
 pub use fast::Fast;
 pub use show::{State, Table};
+pub use sound::is_sound;
 
 pub const RESOURCES: usize = 16;
 pub const MOST_JOBS: usize = 16;
@@ -31,7 +32,7 @@ pub const MOST_LEAD: u32 = 1_000_000;
 pub const ZERO_GAP: u32 = 100_000_000;
 
 pub const HEADER_WORDS: usize = 4;
-pub const JOB_WORDS: usize = 3;
+pub const JOB_WORDS: usize = 4;
 pub const LINE_WORDS: usize = 1 + 3 * MOST_USES;
 pub const BOARD_WORDS: usize =
     HEADER_WORDS + MOST_JOBS * JOB_WORDS + RESOURCES * LINE_WORDS + SIDE * SIDE;
@@ -58,7 +59,7 @@ pub struct Board {
     pub lead: u32,
     pub clock: u32,
     pub job_count: u32,
-    pub jobs: [Job; MOST_JOBS],
+    pub jobs: Box<[Job; MOST_JOBS]>,
     pub lines: Box<[Line; RESOURCES]>,
     /// Row i, column j: how late point j can follow point i, plus `ZERO_GAP`.
     pub cells: Box<[[u32; SIDE]; SIDE]>,
@@ -69,6 +70,8 @@ pub struct Job {
     pub points: u32,
     pub batch: u32,
     pub sent: u32,
+    /// No later than this its last point must be; 0 is no due time.
+    pub due: u32,
 }
 
 #[derive(Clone, Copy, Debug, Default, PartialEq, Eq)]
@@ -110,11 +113,12 @@ impl Board {
             lead: next(),
             clock: next(),
             job_count: next(),
-            jobs: array::from_fn(|_| Job {
+            jobs: Box::new(array::from_fn(|_| Job {
                 points: next(),
                 batch: next(),
                 sent: next(),
-            }),
+                due: next(),
+            })),
             lines: Box::new(array::from_fn(|_| Line {
                 count: next(),
                 uses: array::from_fn(|_| Use {
@@ -129,8 +133,8 @@ impl Board {
 
     pub fn words(&self) -> Box<[u32; BOARD_WORDS]> {
         let mut words = vec![self.horizon, self.lead, self.clock, self.job_count];
-        for job in &self.jobs {
-            words.extend([job.points, job.batch, job.sent]);
+        for job in self.jobs.iter() {
+            words.extend([job.points, job.batch, job.sent, job.due]);
         }
         for line in self.lines.iter() {
             words.push(line.count);
@@ -189,17 +193,18 @@ mod tests {
 
     #[test]
     fn the_words_are_in_the_order_of_the_call_log() {
-        assert_eq!(BOARD_WORDS, 5_829);
-        let words: Vec<u32> = (0..5_829).collect();
+        assert_eq!(BOARD_WORDS, 5_845);
+        let words: Vec<u32> = (0..5_845).collect();
         let words: Box<[u32; BOARD_WORDS]> = words.try_into().unwrap();
         let board = Board::from_words(&words);
         assert_eq!((board.horizon, board.job_count), (0, 3));
-        assert_eq!((board.jobs[0].points, board.jobs[15].sent), (4, 51));
+        assert_eq!((board.jobs[0].points, board.jobs[0].due), (4, 7));
+        assert_eq!((board.jobs[15].sent, board.jobs[15].due), (66, 67));
         let line = board.lines[1];
-        assert_eq!((line.count, line.uses[0].point), (52 + 97, 53 + 97));
-        assert_eq!(line.uses[31].length, 52 + 2 * 97 - 1);
-        assert_eq!((board.cells[0][0], board.cells[1][0]), (1_604, 1_669));
-        assert_eq!(board.cells[64][64], 5_828);
+        assert_eq!((line.count, line.uses[0].point), (68 + 97, 69 + 97));
+        assert_eq!(line.uses[31].length, 68 + 2 * 97 - 1);
+        assert_eq!((board.cells[0][0], board.cells[1][0]), (1_620, 1_685));
+        assert_eq!(board.cells[64][64], 5_844);
         assert_eq!(board.words(), words);
     }
 }

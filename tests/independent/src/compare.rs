@@ -2,6 +2,7 @@
 //! against its forward definition; also counts what was seen, so that a poor log is told.
 
 mod answers;
+mod dues;
 mod floors;
 mod reach;
 mod sights;
@@ -15,6 +16,7 @@ use crate::replay::{Answer, Session};
 use crate::ruling::Ruling;
 use crate::write::actions_in;
 use answers::{first_difference, Answers};
+use dues::Dues;
 use reach::Reach;
 use sights::Sight;
 use std::collections::BTreeMap;
@@ -35,6 +37,7 @@ pub struct Comparison {
     calls: BTreeMap<&'static str, Tally>,
     sights: BTreeMap<Sight, usize>,
     reach: Reach,
+    dues: Dues,
     differences: usize,
     told: Vec<String>,
     /// How many jobs have retired from the board that is current.
@@ -57,14 +60,18 @@ pub fn compare(log: impl BufRead, answers: impl BufRead) -> io::Result<Compariso
                 return Ok(comparison);
             }
         };
+        comparison.dues.look_ahead(&item, &session);
         let Some(answer) = session.answer(&item) else {
             comparison.count_by_hand(&item, &session);
-            comparison.count_reached(&item, false, &session);
+            comparison.count_reached(&item, None, &session);
             continue;
         };
         comparison.count(&item, &answer);
         comparison.compare_read_back(number, &item, &answer);
-        let accepted = matches!(answer, Answer::Ruling(Ruling::Accepted));
+        let ruling = match answer {
+            Answer::Ruling(ruling) => Some(ruling),
+            _ => None,
+        };
         if let Answer::List(_) = answer {
             list_line = number;
         }
@@ -79,7 +86,7 @@ pub fn compare(log: impl BufRead, answers: impl BufRead) -> io::Result<Compariso
                  its list begins in line {list_line}"
             ));
         }
-        comparison.count_reached(&item, accepted, &session);
+        comparison.count_reached(&item, ruling, &session);
         if let Item::Fact(offer) = &item {
             comparison.compare_forward(number, session.plant(), offer);
         }
@@ -110,6 +117,12 @@ impl Comparison {
         for sight in Sight::all_of(answer) {
             self.see(sight);
         }
+        if let Answer::Table(board) = answer {
+            let sight = self.dues.table(board);
+            sight
+                .into_iter()
+                .for_each(|sight| self.see(Sight::Due(sight)));
+        }
         if let Answer::List(_) = answer {
             self.lists += 1;
         }
@@ -139,9 +152,15 @@ impl Comparison {
         }
     }
 
-    fn count_reached(&mut self, item: &Item, accepted: bool, session: &Session) {
+    /// What an item shows by its ruling, where it has one, and the board that stands after it.
+    fn count_reached(&mut self, item: &Item, ruling: Option<Ruling>, session: &Session) {
+        let accepted = ruling == Some(Ruling::Accepted);
         for sight in self.reach.sights(item, accepted, session) {
             self.see(sight);
+        }
+        let number = ruling.map(Ruling::number);
+        for sight in self.dues.sights(item, number, session) {
+            self.see(Sight::Due(sight));
         }
         self.sights
             .insert(Sight::EveryResource, self.reach.least_used());
@@ -222,7 +241,7 @@ impl Comparison {
                 faults.push(format!("{call} {number} {value}: not seen"));
             }
         }
-        for &(sight, least) in floors::sights(kind) {
+        for (sight, least) in floors::sights(kind) {
             let seen = self.seen(sight);
             if seen < least {
                 let what = sight.name();

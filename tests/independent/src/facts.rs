@@ -48,12 +48,32 @@ fn work_back(plant: &[u8], offer: &[u8]) -> Result<(), Refusal> {
     check_facts(&Offer::read(&plant, offer)?)
 }
 
-/// Refusals 10 to 13 of an offer in right format.
-pub fn check_facts(offer: &Offer) -> Result<(), Refusal> {
-    let known = offer.known;
-    if known.both_ways() != 0 || offer.goal.both_ways() != 0 {
+/// Refusals 10 to 13 of an offer in right format. A due time is for plan alone to test.
+fn check_facts(offer: &Offer) -> Result<(), Refusal> {
+    check_both_ways(offer)?;
+    check_needs(offer)
+}
+
+/// The same as plan tests them on a board with this horizon: 23 stands straight after 10.
+pub fn check_facts_and_due(offer: &Offer, horizon: u32) -> Result<(), Refusal> {
+    check_both_ways(offer)?;
+    if offer.due > horizon {
+        return Err(Refusal::DuePastHorizon);
+    }
+    check_needs(offer)
+}
+
+/// Refusal 10.
+fn check_both_ways(offer: &Offer) -> Result<(), Refusal> {
+    if offer.known.both_ways() != 0 || offer.goal.both_ways() != 0 {
         return Err(Refusal::Contradiction);
     }
+    Ok(())
+}
+
+/// Refusals 11 to 13.
+fn check_needs(offer: &Offer) -> Result<(), Refusal> {
+    let known = offer.known;
     let needed = regress(offer.goal, offer.chain())?;
     let lacking = (needed.positive & !known.positive) | (needed.negative & !known.negative);
     if lacking != 0 {
@@ -148,8 +168,12 @@ mod tests {
         chain: &[usize],
     ) -> (u32, Option<u32>) {
         let plant = plant_file(actions);
-        let offer = OfferDraft::new(known, goal, actions, chain).bytes();
+        let offer = OfferDraft::new(known, goal, actions, chain);
+        let due = offer.clone().due(u32::MAX).bytes();
+        let offer = offer.bytes();
         let ruling = fact_check(&plant, &offer);
+        // No due time makes a difference.
+        assert_eq!(fact_check(&plant, &due), ruling);
         if let Some(passed) = fact_check_forward(&plant, &offer) {
             assert_eq!(passed, ruling == Ruling::Accepted);
         }

@@ -8,7 +8,7 @@
 //!
 //! - `generate SEED CALLS [KIND]` writes a call log to standard output. The kind is `read`,
 //!   `board`, or `retire` for boards with retire. The lists that go through every limit take up to
-//!   35,000 calls, and `compare` wants some 40,000 to have seen enough, of boards 70,000.
+//!   38,000 calls, and `compare` wants some 40,000 to have seen enough, of boards 70,000.
 //! - `answer LOG` writes the answers of the fast form, for `compare` to hold against the definition.
 //! - `compare LOG ANSWERS [KIND]` holds the answers that the product's replay of the log wrote
 //!   against this implementation's, and fails on a difference or if the log showed too little.

@@ -6,11 +6,18 @@ use crate::ruling::Refusal;
 
 pub const MOST_STEPS: usize = 8;
 
+/// The words before the first step, of which the due time is the last.
+const HEADER_WORDS: usize = 7;
+/// The bytes before the first step.
+pub const HEADER_BYTES: usize = 4 * HEADER_WORDS;
+
 /// An offer in right format.
 pub struct Offer<'a> {
     pub batch: u32,
     pub known: Facts,
     pub goal: Facts,
+    /// No later than this the job's last point must be; 0 is no due time.
+    pub due: u32,
     step_count: usize,
     /// The action of each step; those from `step_count` on aren't used.
     actions: [Action<'a>; MOST_STEPS],
@@ -23,10 +30,10 @@ impl<'a> Offer<'a> {
     #[inline]
     pub fn read(plant: &Plant<'a>, bytes: &'a [u8]) -> Result<Self, Refusal> {
         let (words, odd_bytes) = bytes.as_chunks();
-        let Some((header, steps)) = words.split_first_chunk::<6>() else {
+        let Some((header, steps)) = words.split_first_chunk::<HEADER_WORDS>() else {
             return Err(Refusal::OfferSize);
         };
-        let [batch, known_true, known_false, goal_true, goal_false, step_count] =
+        let [batch, known_true, known_false, goal_true, goal_false, step_count, due] =
             header.map(u32::from_le_bytes);
         let step_count = step_count as usize;
         if step_count == 0 || step_count > MOST_STEPS {
@@ -48,6 +55,7 @@ impl<'a> Offer<'a> {
             batch,
             known: Facts::new(known_true, known_false),
             goal: Facts::new(goal_true, goal_false),
+            due,
             step_count,
             actions,
             steps,
@@ -136,21 +144,41 @@ mod tests {
     #[test]
     fn an_offer_cut_short_is_7_or_8() {
         let offer = proving_offer().bytes();
-        assert_eq!(offer.len(), 36);
+        assert_eq!(offer.len(), 40);
         let cuts = [
             (0, 7, None),
             (23, 7, None),
-            (24, 8, Some(0)),
-            (27, 8, Some(0)),
+            (24, 7, None),
+            (27, 7, None),
+            (28, 8, Some(0)),
+            (31, 8, Some(0)),
         ];
         for (length, number, value) in cuts {
             assert_eq!(ruling_on(&offer[..length]), (number, value), "{length}");
         }
-        // Byte 28 begins the place of step 0, byte 32 step 1.
-        for (length, step) in [(28, 0), (31, 0), (32, 1), (35, 1)] {
+        // Byte 32 begins the place of step 0, byte 36 step 1.
+        for (length, step) in [(32, 0), (35, 0), (36, 1), (39, 1)] {
             assert_eq!(ruling_on(&offer[..length]), (8, Some(step)), "{length}");
         }
         assert_eq!(ruling_on(&offer), (0, None));
+    }
+
+    #[test]
+    fn the_due_time_is_at_byte_24_behind_the_step_count() {
+        let file = plant_file(&proving_plant());
+        let plant = Plant::read(&file).unwrap();
+        let bytes = proving_offer().due(0x0403_0201).bytes();
+        assert_eq!(bytes[20..HEADER_BYTES], [2, 0, 0, 0, 1, 2, 3, 4]);
+        let offer = Offer::read(&plant, &bytes).unwrap();
+        assert_eq!((offer.due, offer.chain().len()), (0x0403_0201, 2));
+    }
+
+    /// Its steps begin where the due time should be, so that the last of them runs past the offer.
+    #[test]
+    fn an_offer_without_the_due_time_is_8() {
+        let mut offer = proving_offer().bytes();
+        offer.drain(24..28);
+        assert_eq!(ruling_on(&offer), (8, Some(1)));
     }
 
     #[test]

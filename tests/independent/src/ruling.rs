@@ -1,4 +1,4 @@
-//! Rulings: accepted, or refused with document 01's number and the value its cause has.
+//! Rulings: accepted, or refused with the number of documents 01 and 02 and the value its cause has.
 
 use std::fmt;
 
@@ -49,10 +49,12 @@ pub enum Refusal {
     NotRetired,
     /// 22: the list is shorter than the rows, or the buffer than the plant file.
     ShortList,
+    /// 23: the due time is past the horizon.
+    DuePastHorizon,
 }
 
 impl Refusal {
-    /// Document 01's number, with the value where the cause has one.
+    /// The documents' number, with the value where the cause has one.
     pub fn number_and_value(self) -> (u32, Option<u32>) {
         match self {
             Refusal::PlantMark => (1, None),
@@ -77,6 +79,7 @@ impl Refusal {
             Refusal::NoneAfterClock => (20, None),
             Refusal::NotRetired => (21, None),
             Refusal::ShortList => (22, None),
+            Refusal::DuePastHorizon => (23, None),
         }
     }
 }
@@ -89,7 +92,7 @@ pub enum Ruling {
 }
 
 impl Ruling {
-    /// 0 for accepted, else document 01's number.
+    /// 0 for accepted, else the documents' number.
     pub fn number(self) -> u32 {
         self.number_and_value().0
     }

@@ -40,7 +40,7 @@ abbrev words : tie.After-enum-told → List ℕ
 words c = entry-of c .args .w .now
 
 abbrev offer : tie.After-enum-told → Offer
-offer c = let A = entry-of c .args in heldOffer (A .batch) (A .steps) (allocationsIn (A .allocations .now) (A .many))
+offer c = let A = entry-of c .args in heldOffer (A .batch) (A .due) (A .steps) (allocationsIn (A .allocations .now) (A .many))
 
 planning :
     (c : tie.After-enum-told)
@@ -80,9 +80,9 @@ added c =
     let entry = entry-of (went-on c) in
     let m = entry .args .steps .count + 1 in
     let w = words (went-on c) in
-    let same : newJob m (entry .args .batch) ≡ jobFrom (offer (went-on c)) =
-    ap (λ (k : ℕ). newJob k (entry .args .batch)) (add-one _ ∙ ap suc (entry .pre .1 .1)) in
-    let front : List Job → List Job = λ js. js ++ (newJob m (entry .args .batch) ∷ []) in
+    let same : newJob m (entry .args .batch) (entry .args .due) ≡ jobFrom (offer (went-on c)) =
+    ap (λ (k : ℕ). newJob k (entry .args .batch) (entry .args .due)) (add-one _ ∙ ap suc (entry .pre .1 .1)) in
+    let front : List Job → List Job = λ js. js ++ (newJob m (entry .args .batch) (entry .args .due) ∷ []) in
     rw same at (fronted-kept w (entry .pre .1 .0) (entry .pre .0) (table c) front (c .add-job .last .0) (c .add-job .ensures))
 
 same-size : (c : tie.After-add-job) → length (wordsWith (words (went-on c)) (table c)) ≡ boardSize
@@ -113,7 +113,7 @@ returns c = let drawn : tie.After-draft = search in
     let entry : tie.Start = search in
     let A = entry .args in
     let W = A .w .now in
-    let o = heldOffer (A .batch) (A .steps) (allocationsIn (A .allocations .now) (A .many)) in
+    let o = heldOffer (A .batch) (A .due) (A .steps) (allocationsIn (A .allocations .now) (A .many)) in
     let came = drafted-on W (entry .pre .1 .0) o _ (read .settings-in .result) (read .settings-in .ensures) (drawn .draft .ensures) in
     unanswered W _ _ _ (stopped (boardIn W) o _ came _ (c .before .ruling .given .1))
 

@@ -37,7 +37,9 @@ abbrev μ-loop : tie.MeasureT-loop
 μ-loop plant t offer puts₀ count many₀ at₀ k₀ allocations many at k = count - k
 
 u32-at-requires : tie.Need-u32-at-requires Inv-loop μ-loop
-u32-at-requires c κs = let entry : tie.Start Inv-loop μ-loop = search in read-of _ _ (entry .pre .2) .long
+u32-at-requires c κs = let entry : tie.Start Inv-loop μ-loop = search in
+    let long = read-of _ _ (entry .pre .2) .long in
+    omega (arith, long)
 
 loop-holds : tie.Need-loop-holds Inv-loop μ-loop
 loop-holds c = let entry : tie.Start Inv-loop μ-loop = search in let e = c .u32-at .ensures in

@@ -25,7 +25,9 @@ abbrev μ-loop : tie.MeasureT-loop
 μ-loop plant t offer count held₀ at₀ k₀ held at k = count - k
 
 offset-at-requires : tie.Need-offset-at-requires Inv-loop μ-loop
-offset-at-requires c κs = let entry : tie.Start Inv-loop μ-loop = search in read-of _ _ (entry .pre .2) .long
+offset-at-requires c κs = let entry : tie.Start Inv-loop μ-loop = search in
+    let long = read-of _ _ (entry .pre .2) .long in
+    omega (arith, long)
 
 loop-holds : tie.Need-loop-holds Inv-loop μ-loop
 loop-holds c = let entry : tie.Start Inv-loop μ-loop = search in

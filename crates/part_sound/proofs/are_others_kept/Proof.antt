@@ -47,7 +47,7 @@ returns c = let entry : tie.Start = search in
 
 is-sent-first-requires : tie.Need-is-sent-first-requires
 is-sent-first-requires c κs = let entry : tie.Start = search in
-    (entry .pre .0 .0, jobs-sized (heldJobs (wordIn (entry .args .w .now))) (entry .pre .1 .1) .count)
+    (entry .pre .0 .0, jobs-sized (wordIn (entry .args .w .now) horizonAt) (heldJobs (wordIn (entry .args .w .now))) (entry .pre .1 .1) .count)
 
 returns-2 : tie.Need-returns-2
 unfolding clausesKept
@@ -57,7 +57,7 @@ returns-2 c = let tested : tie.Else1 = search in let entry : tie.Start = search 
 is-gap-table-requires : tie.Need-is-gap-table-requires
 is-gap-table-requires c κs = let entry : tie.Start = search in
     let w = wordIn (entry .args .w .now) in
-    let jobs = jobs-sized (heldJobs w) (entry .pre .1 .1) in
+    let jobs = jobs-sized (w horizonAt) (heldJobs w) (entry .pre .1 .1) in
     (entry .pre .0 .1, omega (arith, jobs .points), numbers-to (settingsRead w) (w clockAt) (entry .pre .1 .0) .0 .1)
 
 returns-3 : tie.Need-returns-3
@@ -69,7 +69,7 @@ returns-3 c = let passed : tie.Else2 = search in let tested : tie.Else1 = search
 
 is-sent-still-requires : tie.Need-is-sent-still-requires
 is-sent-still-requires c κs = let entry : tie.Start = search in
-    (entry .pre .0 .0, entry .pre .0 .1, jobs-sized (heldJobs (wordIn (entry .args .w .now))) (entry .pre .1 .1))
+    (entry .pre .0 .0, entry .pre .0 .1, jobs-sized (wordIn (entry .args .w .now) horizonAt) (heldJobs (wordIn (entry .args .w .now))) (entry .pre .1 .1))
 
 returns-4 : tie.Need-returns-4
 unfolding clausesKept

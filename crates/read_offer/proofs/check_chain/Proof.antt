@@ -16,7 +16,9 @@ read-goal-requires : tie.Need-read-goal-requires
 read-goal-requires c κs = let entry : tie.Start = search in read-of _ _ (entry .pre .2) .long
 
 u32-at-requires : tie.Need-u32-at-requires
-u32-at-requires c κs = let entry : tie.Start = search in read-of _ _ (entry .pre .2) .long
+u32-at-requires c κs = let entry : tie.Start = search in
+    let long = read-of _ _ (entry .pre .2) .long in
+    omega (arith, long)
 
 work-back-requires : tie.Need-work-back-requires
 work-back-requires c κs = let entry : tie.Start = search in

@@ -19,6 +19,10 @@ pub trait Form: Clone {
     fn fresh(horizon: u32, lead: u32) -> Self;
     /// Makes the call and gives the ruling's number.
     fn make(&mut self, call: &Call) -> u32;
+    /// The call as this form takes it: another commit may have another header in an offer.
+    fn spelled(call: &Call) -> Call {
+        call.clone()
+    }
 }
 
 /// The calls of a form in Rust.

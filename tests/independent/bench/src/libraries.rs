@@ -7,6 +7,7 @@ mod c_calls;
 
 use crate::forms::Call;
 pub use c_calls::SfRow;
+use independent::board;
 
 type FactCheck = unsafe extern "C" fn(*const u8, usize, *const u8, usize) -> u32;
 #[rustfmt::skip]
@@ -51,8 +52,31 @@ impl Calls {
     }
 }
 
+/// The due time in an offer's header, its last word.
+const DUE: std::ops::Range<usize> = 24..28;
+
 pub trait Library: Clone {
     const CALLS: Calls;
+    const BOARD_WORDS: usize;
+    /// Whether offers have due times.
+    const HAS_DUE: bool;
+
+    /// Whether the call can be made: a due time only where offers have one.
+    fn takes(call: &Call) -> bool {
+        match call {
+            Call::Plan { offer, .. } => Self::HAS_DUE || offer[DUE] == [0; 4],
+            _ => true,
+        }
+    }
+
+    /// The call as the library takes it.
+    fn spelled(call: &Call) -> Call {
+        let mut call = call.clone();
+        if let (false, Call::Plan { offer, .. }) = (Self::HAS_DUE, &mut call) {
+            offer.drain(DUE);
+        }
+        call
+    }
 }
 
 /// This tree's library, which include/snipefeather.h declares.
@@ -70,6 +94,8 @@ impl Library for ThisTree {
         retire: Some(c_calls::sf_retire),
         report: Some(c_calls::sf_report),
     };
+    const BOARD_WORDS: usize = board::BOARD_WORDS;
+    const HAS_DUE: bool = true;
 }
 
 /// Another commit's library, whose calls scripts/earlier renames.
@@ -102,6 +128,24 @@ impl Library for OtherCommit {
         retire: alike!(sf_retire),
         report: alike!(sf_report),
     };
+    const BOARD_WORDS: usize = match option_env!("EARLIER_BOARD_WORDS") {
+        Some(text) => number(text),
+        None => 0,
+    };
+    const HAS_DUE: bool = option_env!("EARLIER_HAS_DUE").is_some();
+}
+
+// A board of the other commit is held in the words of ours.
+const _: () = assert!(OtherCommit::BOARD_WORDS <= board::BOARD_WORDS);
+
+/// A number in decimal digits.
+const fn number(text: &str) -> usize {
+    let (digits, mut value, mut k) = (text.as_bytes(), 0, 0);
+    while k < digits.len() {
+        value = 10 * value + (digits[k] - b'0') as usize;
+        k += 1;
+    }
+    value
 }
 
 /// Whether another commit's library is linked.

@@ -27,7 +27,15 @@ use work::{Work, JOB_POINTS};
 const BLOCKS: usize = 100;
 const CHART_BLOCKS: usize = 40;
 
-const CALLS: [&str; 6] = ["soundness", "plan", "send", "clock", "retire", "report"];
+const CALLS: [&str; 7] = [
+    "soundness",
+    "plan",
+    "plan, due",
+    "send",
+    "clock",
+    "retire",
+    "report",
+];
 const JOBS: [usize; 3] = [1, 8, 16];
 /// Jobs on the board before the plans of the chart.
 const CHART_JOBS: [usize; 9] = [1, 2, 4, 6, 8, 10, 12, 14, 15];
@@ -41,6 +49,7 @@ fn case(work: &Work, name: &'static str, jobs: usize) -> Case {
         // A send that is refused with 18 does nothing but test the board.
         "soundness" => new(&board, Call::Send { place: u32::MAX }, 18),
         "plan" => new(&work.planned(jobs - 1), work.plan(jobs - 1), 0),
+        "plan, due" => new(&work.planned(jobs - 1), work.plan_in_time(jobs - 1), 0),
         "send" => new(&board, Call::Send { place: last }, 0),
         "clock" => new(&board, Call::Clock { to: 1_000 }, 0),
         "retire" => new(&work.ended(jobs), Call::Retire, 0),

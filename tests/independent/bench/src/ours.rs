@@ -30,7 +30,7 @@ pub fn write_plant<L: Library>(actions: &[u32], plant: &mut [u8]) -> u32 {
     number
 }
 
-/// The words of a board.
+/// The words of a board; another commit's may be fewer.
 #[derive(Clone)]
 pub struct Product<L> {
     pub words: [u32; BOARD_WORDS],
@@ -48,12 +48,12 @@ impl<L: Library> Product<L> {
         let (plant, plant_len) = (plant.as_ptr(), plant.len());
         let (offer, offer_len) = (offer.as_ptr(), offer.len());
         let cause = cause.as_mut_ptr();
-        // SAFETY: each pointer is lent with the length of a live array or slice of its own; the
+        // SAFETY: each pointer is lent with a length not above a live array's or slice's of its own; the
         // board and the cause are borrowed as mutable, the other two are only read.
         unsafe {
             call(
                 board,
-                BOARD_WORDS,
+                L::BOARD_WORDS,
                 plant,
                 plant_len,
                 offer,
@@ -68,8 +68,8 @@ impl<L: Library> Product<L> {
         let call = L::CALLS.report.expect(LACKING);
         let mut rows = [SfRow::default(); MOST_POINTS];
         let (board, list) = (self.words.as_ptr(), rows.as_mut_ptr());
-        // SAFETY: each pointer is lent with the length of its live array; the board is only read.
-        let number = unsafe { call(board, BOARD_WORDS, list, rows.len()) };
+        // SAFETY: each pointer is lent with a length not above its live array's; the board is only read.
+        let number = unsafe { call(board, L::BOARD_WORDS, list, rows.len()) };
         black_box(&rows);
         number
     }
@@ -79,16 +79,14 @@ impl<L: Library> Form for Product<L> {
     fn fresh(horizon: u32, lead: u32) -> Self {
         let call = L::CALLS.fresh.expect(LACKING);
         let mut words = [0; BOARD_WORDS];
-        // SAFETY: the pointer is lent with the length of its live array.
-        let number = unsafe { call(words.as_mut_ptr(), BOARD_WORDS, horizon, lead) };
+        // SAFETY: the pointer is lent with a length that is not above that of its live array.
+        let number = unsafe { call(words.as_mut_ptr(), L::BOARD_WORDS, horizon, lead) };
         assert_eq!(
             number, 0,
             "a horizon and a lead in range, and a board's words"
         );
-        Product {
-            words,
-            library: PhantomData,
-        }
+        let library = PhantomData;
+        Product { words, library }
     }
 
     fn make(&mut self, call: &Call) -> u32 {
@@ -96,15 +94,21 @@ impl<L: Library> Form for Product<L> {
         let words = self.words.as_mut_ptr();
         match call {
             Call::Plan { plant, offer } => self.plan(plant, offer),
-            // SAFETY: the pointer is lent with the length of its array, borrowed as mutable.
+            // SAFETY: the pointer is lent with a length that is not above its array's, borrowed as mutable.
             Call::Send { place } => unsafe {
-                calls.send.expect(LACKING)(words, BOARD_WORDS, *place)
+                calls.send.expect(LACKING)(words, L::BOARD_WORDS, *place)
             },
             // SAFETY: the same.
-            Call::Clock { to } => unsafe { calls.clock.expect(LACKING)(words, BOARD_WORDS, *to) },
+            Call::Clock { to } => unsafe {
+                calls.clock.expect(LACKING)(words, L::BOARD_WORDS, *to)
+            },
             // SAFETY: the same.
-            Call::Retire => unsafe { calls.retire.expect(LACKING)(words, BOARD_WORDS) },
+            Call::Retire => unsafe { calls.retire.expect(LACKING)(words, L::BOARD_WORDS) },
             Call::Report => self.report(),
         }
+    }
+
+    fn spelled(call: &Call) -> Call {
+        L::spelled(call)
     }
 }

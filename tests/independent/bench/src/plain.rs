@@ -30,6 +30,8 @@ struct Job {
     points: usize,
     batch: u32,
     sent: bool,
+    /// 0 is no due time.
+    due: u32,
 }
 
 #[derive(Clone)]
@@ -83,6 +85,7 @@ impl Plain {
             && (0..=MOST_LEAD as i32).contains(&self.lead)
             && (0..=self.horizon).contains(&self.clock)
             && self.jobs().iter().all(|job| sizes.contains(&job.points))
+            && self.jobs().iter().all(|job| job.due <= self.horizon as u32)
             && points <= MOST_POINTS
             && points + 1 == self.live
             && self.jobs().is_sorted_by(|one, next| one.sent >= next.sent)
@@ -98,6 +101,14 @@ impl Plain {
         }
         self.check_places(offer)?;
         Ok(new)
+    }
+
+    /// The latest that the offer's job may end: its due time, or else the horizon.
+    pub fn latest_end(&self, offer: &Offer) -> i32 {
+        match offer.due {
+            0 => self.horizon,
+            due => due as i32,
+        }
     }
 
     /// Puts the offer's job, of these new points, behind the others and tells the rules (c), (d)
@@ -120,6 +131,7 @@ impl Plain {
             points: new.len(),
             batch: offer.batch,
             sent: false,
+            due: offer.due,
         };
         self.job_count += 1;
         self.live = new.end;

@@ -10,7 +10,7 @@
 use crate::forms::Calls;
 use crate::plain::{Plain, Rule};
 use independent::board::{Row, MOST_HORIZON, SIDE, ZERO_GAP};
-use independent::facts::check_facts;
+use independent::facts::check_facts_and_due;
 use independent::offer::Offer;
 use independent::plant::Plant;
 use independent::Refusal;
@@ -86,12 +86,14 @@ impl Scratch {
         self.cells[live..].fill([0; SIDE]);
     }
 
-    /// The points of a new job: each from 0 to the horizon, the first not before clock and lead.
-    fn add_points(&mut self, new: Range<usize>) {
+    /// The points of a new job: each from 0 to the horizon, the first not before clock and lead, the
+    /// last no later than this.
+    fn add_points(&mut self, new: Range<usize>, latest_end: i32) {
         for row in &mut self.rules[..new.start] {
             row[new.clone()].fill(FREE);
         }
         self.rules[0][new.clone()].fill(self.plain.horizon);
+        self.rules[0][new.end - 1] = latest_end;
         for point in new.clone() {
             let row = &mut self.rules[point];
             row[..new.end].fill(FREE);
@@ -143,9 +145,9 @@ impl Calls for Scratch {
         let mut gaps = no_gaps();
         self.build_sound(&mut gaps)?;
         let offer = Offer::read(&plant, offer)?;
-        check_facts(&offer)?;
+        check_facts_and_due(&offer, self.plain.horizon as u32)?;
         let new = self.plain.new_points(&offer)?;
-        self.add_points(new.clone());
+        self.add_points(new.clone(), self.plain.latest_end(&offer));
         let rules = &mut self.rules;
         self.plain.plan(&offer, new, |rule| add(rules, rule));
         if self.build(&mut gaps) {

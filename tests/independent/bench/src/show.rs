@@ -90,7 +90,7 @@ pub fn legend() {
         "ratio: ours to the faster of incremental and scratch; < where it is above {GOAL:.2}\n"
     );
     if HAS_OTHER {
-        println!("earlier: the other commit's library, where it has the call as we declare it\n");
+        println!("earlier: the other commit's library, where it takes the call\n");
     }
 }
 

@@ -64,7 +64,7 @@ impl Forms {
 /// cannot take one, since it is a table.
 #[test]
 fn all_forms_give_the_same_rulings_and_windows() {
-    let mut seen = [0; 23];
+    let mut seen = [0; 24];
     for seed in 0..2 {
         let mut log = Vec::new();
         generate(seed, 24_000, Kind::Retire, &mut log).unwrap();
@@ -80,8 +80,31 @@ fn all_forms_give_the_same_rulings_and_windows() {
             }
         }
     }
-    for number in [0, 14, 15, 16, 17, 18, 19, 20, 21] {
+    for number in [0, 14, 15, 16, 17, 18, 19, 20, 21, 23] {
         assert!(seen[number] >= 10, "{number}: {seen:?}");
+    }
+}
+
+/// A due time that binds narrows the windows of all points before it; a later one changes nothing.
+#[test]
+fn all_forms_keep_due_times() {
+    let actions = [ActionDraft::new(Facts::NONE, Facts::NONE, &[]).lasting(10, 20)];
+    let plant = plant_file(&actions);
+    let offer = OfferDraft::new(Facts::NONE, Facts::NONE, &actions, &[0, 0]);
+    for (due, number, latest) in [
+        (0, 0, vec![980, 990, 1_000]),
+        (1_000, 0, vec![980, 990, 1_000]),
+        (30, 0, vec![10, 20, 30]),
+        (25, 0, vec![5, 15, 25]),
+        (24, 17, vec![]),
+        (1_001, 23, vec![]),
+    ] {
+        let mut forms = fresh(1_000, 5).unwrap();
+        let plan = Item::Plan(offer.clone().due(due).bytes());
+        assert_eq!(forms.make(&plant, &plan), number, "{due}");
+        let rows = rows(&mut forms.windows);
+        let seen: Vec<u32> = rows.iter().map(|row| row.latest).collect();
+        assert_eq!(seen, latest, "{due}");
     }
 }
 

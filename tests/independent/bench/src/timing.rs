@@ -57,26 +57,29 @@ struct Turn {
     later: f64,
 }
 
-/// One form's board before the call, room for its copies, and its turns.
+/// One form's board before the call, the call, room for copies of the board, and the form's turns.
 struct Column<F> {
     before: F,
+    call: Call,
     boards: Vec<F>,
     turns: Vec<Turn>,
 }
 
 impl<F: Form> Column<F> {
-    fn new(before: F) -> Self {
+    fn new(before: &[Call], call: &Call) -> Self {
+        let before: F = board(before);
         Column {
             boards: vec![before.clone(); CALLS_A_TURN],
             before,
+            call: F::spelled(call),
             turns: Vec::new(),
         }
     }
 
     /// The ruling's number, and the board after it.
-    fn try_once(&self, call: &Call) -> (u32, F) {
+    fn try_once(&self) -> (u32, F) {
         let mut board = self.before.clone();
-        (board.make(call), board)
+        (board.make(&self.call), board)
     }
 
     /// The median of a number that each turn has.
@@ -88,14 +91,15 @@ impl<F: Form> Column<F> {
 
 /// A column of any form.
 trait TakesTurns {
-    fn take_turn(&mut self, call: &Call);
+    fn take_turn(&mut self);
 }
 
 impl<F: Form> TakesTurns for Column<F> {
-    fn take_turn(&mut self, call: &Call) {
+    fn take_turn(&mut self) {
         for board in &mut self.boards {
             board.clone_from(&self.before);
         }
+        let call = &self.call;
         let make = |board| {
             black_box(black_box::<&mut F>(board).make(black_box(call)));
         };
@@ -119,12 +123,11 @@ pub fn median(times: &mut [f64]) -> f64 {
 pub struct Case {
     pub name: &'static str,
     pub jobs: usize,
-    call: Call,
     ours: Column<Ours>,
     incremental: Column<Incremental>,
     windows: Column<Windows>,
     scratch: Column<Scratch>,
-    /// None where the other commit's library lacks one of the calls.
+    /// None where the other commit's library lacks one of the calls, or a word that they need.
     earlier: Option<Column<Earlier>>,
 }
 
@@ -141,26 +144,25 @@ impl Case {
     /// The call on the board that the calls before it lead to, which must get this ruling's number
     /// from every form; ours and the form in Rust that stands on words must come to the same words.
     pub fn new(name: &'static str, jobs: usize, before: &[Call], call: Call, number: u32) -> Self {
-        let has_earlier = OtherCommit::CALLS.have_all(before, &call);
+        let has_earlier = OtherCommit::CALLS.have_all(before, &call) && OtherCommit::takes(&call);
         let case = Case {
             name,
             jobs,
-            call,
-            ours: Column::new(board(before)),
-            incremental: Column::new(board(before)),
-            windows: Column::new(board(before)),
-            scratch: Column::new(board(before)),
-            earlier: has_earlier.then(|| Column::new(board(before))),
+            ours: Column::new(before, &call),
+            incremental: Column::new(before, &call),
+            windows: Column::new(before, &call),
+            scratch: Column::new(before, &call),
+            earlier: has_earlier.then(|| Column::new(before, &call)),
         };
-        let (ours, words) = case.ours.try_once(&case.call);
-        let (incremental, expected) = case.incremental.try_once(&case.call);
-        let windows = case.windows.try_once(&case.call).0;
-        let scratch = case.scratch.try_once(&case.call).0;
+        let (ours, words) = case.ours.try_once();
+        let (incremental, expected) = case.incremental.try_once();
+        let windows = case.windows.try_once().0;
+        let scratch = case.scratch.try_once().0;
         let numbers = [ours, incremental, windows, scratch];
         assert_eq!(numbers, [number; 4], "{name} at {jobs}");
         assert!(words.words == expected.0, "boards differ: {name} at {jobs}");
         if let Some(earlier) = &case.earlier {
-            let earlier = earlier.try_once(&case.call).0;
+            let earlier = earlier.try_once().0;
             assert_eq!(earlier, number, "the other commit: {name} at {jobs}");
         }
         case
@@ -176,7 +178,7 @@ impl Case {
             _ => self.earlier.as_mut().map(|column| column as _),
         };
         if let Some(column) = column {
-            column.take_turn(&self.call);
+            column.take_turn();
         }
     }
 

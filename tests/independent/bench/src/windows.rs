@@ -14,7 +14,7 @@ mod times;
 use crate::forms::Calls;
 use crate::plain::Plain;
 use independent::board::Row;
-use independent::facts::check_facts;
+use independent::facts::check_facts_and_due;
 use independent::offer::Offer;
 use independent::plant::Plant;
 use independent::Refusal;
@@ -40,13 +40,15 @@ impl Windows {
         sound.then_some(()).ok_or(Refusal::Unsound)
     }
 
-    /// The windows with new points and the rules from number `old` on, which came with them; `None`
-    /// where a window runs empty.
-    fn with_new(&self, new: Range<usize>, old: usize) -> Option<Times> {
+    /// The windows with new points, the last of them no later than this, and the rules from number
+    /// `old` on, which came with them; `None` where a window runs empty.
+    fn with_new(&self, new: Range<usize>, latest_end: i32, old: usize) -> Option<Times> {
         let plain = &self.plain;
         let mut times = self.times.clone();
         times.add_points(new.clone(), plain.horizon);
         times.not_before(new.start, plain.clock + plain.lead)?;
+        // A rule reaches the last point, so that this is worked through with the rules.
+        times.not_after(new.end - 1, latest_end);
         let (mut from, mut to) = (Points::NONE, Points::NONE);
         for rule in self.rules.iter().skip(old) {
             from.insert(rule.from);
@@ -71,13 +73,14 @@ impl Calls for Windows {
         let plant = Plant::read(plant)?;
         self.check_sound()?;
         let offer = Offer::read(&plant, offer)?;
-        check_facts(&offer)?;
+        check_facts_and_due(&offer, self.plain.horizon as u32)?;
         let new = self.plain.new_points(&offer)?;
+        let latest_end = self.plain.latest_end(&offer);
         let old = self.rules.count();
         let rules = &mut self.rules;
         self.plain
             .plan(&offer, new.clone(), |rule| rules.push(rule));
-        if let Some(times) = self.with_new(new, old) {
+        if let Some(times) = self.with_new(new, latest_end, old) {
             self.times = times;
             return Ok(());
         }

@@ -8,6 +8,8 @@ use independent::generate::draft::{plant_file, ActionDraft, OfferDraft};
 const HORIZON: u32 = 100_000;
 const LEAD: u32 = 5;
 pub const JOB_POINTS: usize = 4;
+/// A due time that binds: without one a job may end as late as the horizon.
+const DUE: u32 = HORIZON / 2;
 
 pub struct Work {
     actions: Vec<ActionDraft>,
@@ -26,8 +28,17 @@ impl Work {
 
     /// The plan of one more job, at the end of the lines of a board with so many.
     pub fn plan(&self, jobs: usize) -> Call {
+        self.plan_due(jobs, 0)
+    }
+
+    /// The same of a job with a due time, which is one rule more.
+    pub fn plan_in_time(&self, jobs: usize) -> Call {
+        self.plan_due(jobs, DUE)
+    }
+
+    fn plan_due(&self, jobs: usize, due: u32) -> Call {
         let mut offer = OfferDraft::new(Facts::NONE, Facts::NONE, &self.actions, &[0, 1, 2]);
-        offer.batch = 1;
+        (offer.batch, offer.due) = (1, due);
         for step in &mut offer.steps {
             step.places[0] = jobs as u32;
         }
@@ -54,7 +65,11 @@ impl Work {
 pub fn board<F: Form>(calls: &[Call]) -> F {
     let mut board = F::fresh(HORIZON, LEAD);
     for call in calls {
-        assert_eq!(board.make(call), 0, "a call that leads to a board");
+        assert_eq!(
+            board.make(&F::spelled(call)),
+            0,
+            "a call that leads to a board"
+        );
     }
     board
 }

@@ -1,21 +1,25 @@
 //! A list of calls, and how the ranges of each call are lent.
 
 use crate::writing::Writing;
-use independent::board::BOARD_WORDS;
+use independent::board::{BOARD_WORDS, MOST_JOBS, SIDE};
 use independent::generate::rng::Rng;
 use independent::log::Item;
 use std::fmt;
 
-/// Numbers of words that no board has: few, where the head, the lines or the table end, one too few
-/// and too many, two boards, and a board's number of bytes.
-pub const OTHER_LENGTHS: [usize; 11] = [
+/// Where the table begins among the words.
+const CELLS: usize = BOARD_WORDS - SIDE * SIDE;
+
+/// Numbers of words that no board has: few, where the head, the lines or the table end, a board whose
+/// jobs lack a word each, one too few and too many, two boards, and a board's number of bytes.
+pub const OTHER_LENGTHS: [usize; 12] = [
     0,
     1,
     4,
     64,
-    1_603,
-    1_604,
-    1_605,
+    CELLS - 1,
+    CELLS,
+    CELLS + 1,
+    BOARD_WORDS - MOST_JOBS,
     BOARD_WORDS - 1,
     BOARD_WORDS + 1,
     2 * BOARD_WORDS,

@@ -24,4 +24,6 @@ mod write;
 pub mod writing;
 
 #[cfg(test)]
+mod dues;
+#[cfg(test)]
 mod stand_in;

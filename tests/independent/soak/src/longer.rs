@@ -1,5 +1,5 @@
-//! Plants and offers longer than a line of a log can hold. Document 01 refuses them all: the largest
-//! good plant has 10,252 bytes and the largest good offer 184.
+//! Plants and offers longer than a line of a log can hold. All of them are refused: the largest good
+//! plant has 10,252 bytes and the largest good offer 188.
 
 /// The bytes of the trailer, which begins with the index start.
 const TRAILER: usize = 12;

@@ -99,6 +99,7 @@ mod tests {
     use crate::product::Lent;
     use crate::stand_in::{Right, Wrong};
     use crate::turns::Turns;
+    use independent::board::BOARD_WORDS;
 
     /// Lists with one plant that reach their boards by calls alone, so that it is known how many
     /// items a board takes at least. What writes a plant has a board of its own, so that is left out.
@@ -194,7 +195,7 @@ mod tests {
     #[test]
     fn a_board_of_another_length_taken_takes_one_call() {
         let fault = |item: &Item, number, lent: Lent| match (item, lent.board) {
-            (Item::Retire, Some(board)) if board.len() == 5_830 => 21,
+            (Item::Retire, Some(board)) if board.len() == BOARD_WORDS + 1 => 21,
             _ => number,
         };
         assert_left(&["retire"], fault);

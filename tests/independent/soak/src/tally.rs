@@ -6,8 +6,8 @@ use std::collections::BTreeMap;
 use std::fmt;
 use std::time::Duration;
 
-/// Accepted and the refusals of documents 01 and 02: 0 to 22.
-pub const NUMBERS: usize = 23;
+/// Accepted and the refusals of documents 01 and 02: 0 to 23.
+pub const NUMBERS: usize = 24;
 
 /// A way to lend ranges that a run must have tried.
 #[derive(Clone, Copy, Debug, PartialEq, Eq, PartialOrd, Ord)]

@@ -1,10 +1,10 @@
 //! The rule book: document 01's plain machine. It keeps every rule ever made and finds out what
 //! exists from all of them anew at each call.
 
+mod words;
+
 use super::paths::{exists, latest_after, least, Rule};
-use super::{
-    Board, Row, MOST_HORIZON, MOST_JOBS, MOST_LEAD, MOST_POINTS, MOST_USES, RESOURCES, ZERO_GAP,
-};
+use super::{Row, MOST_HORIZON, MOST_JOBS, MOST_LEAD, MOST_POINTS, MOST_USES, RESOURCES};
 use crate::offer::{Allocation, Offer};
 use crate::ruling::Refusal;
 
@@ -28,6 +28,8 @@ pub struct Job {
     pub points: Vec<usize>,
     pub batch: u32,
     pub sent: bool,
+    /// 0 is no due time.
+    pub due: u32,
 }
 
 #[derive(Clone, Copy)]
@@ -66,37 +68,13 @@ impl RuleBook {
         })
     }
 
-    /// The book of a sound board made by hand: it begins with one rule for each cell.
-    pub fn by_hand(board: &Board) -> Self {
-        let live = board.live();
-        let cells = (0..live).flat_map(|from| (0..live).map(move |to| (from, to)));
-        let rules = cells.map(|(from, to)| Rule {
-            plus: to,
-            minus: from,
-            most: board.gap(from, to),
-        });
-        let jobs = board.jobs_in_use().iter().zip(board.points_of_jobs());
-        let jobs = jobs.map(|(job, points)| Job {
-            points: points.collect(),
-            batch: job.batch,
-            sent: job.sent == 1,
-        });
-        let line = |line: &super::Line| line.in_use().iter().map(Use::from).collect();
-        RuleBook {
-            horizon: i64::from(board.horizon),
-            lead: i64::from(board.lead),
-            clock: i64::from(board.clock),
-            points: live,
-            rules: rules.collect(),
-            jobs: jobs.collect(),
-            lines: board.lines.each_ref().map(line),
-        }
-    }
-
     /// Refusals 14 to 17.
     pub fn plan(&mut self, offer: &Offer) -> Result<(), Refusal> {
         let mut next = self.clone();
-        next.add_job(offer)?;
+        let last = next.add_job(offer)?;
+        if offer.due != 0 {
+            next.lasts_at_most(ORIGIN, last, i64::from(offer.due));
+        }
         if !next.has_timetable() {
             return Err(Refusal::NoTimetable);
         }
@@ -104,7 +82,19 @@ impl RuleBook {
         Ok(())
     }
 
-    fn add_job(&mut self, offer: &Offer) -> Result<(), Refusal> {
+    /// The earliest and the latest end that the offer's job would have without its due time;
+    /// refusals 14 to 17.
+    pub fn end_without_due(&self, offer: &Offer) -> Result<(i64, i64), Refusal> {
+        let mut next = self.clone();
+        let last = next.add_job(offer)?;
+        if !next.has_timetable() {
+            return Err(Refusal::NoTimetable);
+        }
+        Ok(next.windows()[last])
+    }
+
+    /// Adds the job with rules (a) to (e) and gives its last point.
+    fn add_job(&mut self, offer: &Offer) -> Result<usize, Refusal> {
         let chain = offer.chain();
         let count = chain.len() + 1;
         if self.jobs.len() == MOST_JOBS || self.live_points().len() + count > MOST_POINTS {
@@ -128,13 +118,15 @@ impl RuleBook {
             points,
             batch: offer.batch,
             sent: false,
+            due: offer.due,
         };
+        let last = job.last_point();
         let newest = self.jobs.iter().rfind(|other| other.batch == job.batch);
         if let Some(newest) = newest.filter(|_| job.batch != 0) {
-            self.lasts_at_least(newest.last_point(), job.last_point(), 0);
+            self.lasts_at_least(newest.last_point(), last, 0);
         }
         self.jobs.push(job);
-        Ok(())
+        Ok(last)
     }
 
     fn put_in_line(&mut self, allocation: &Allocation, point: usize) -> Result<(), Refusal> {
@@ -276,49 +268,5 @@ impl RuleBook {
         let least = least(self.points, &self.rules);
         let greatest = latest_after(ORIGIN, self.points, &self.rules);
         least.into_iter().zip(greatest).collect()
-    }
-
-    /// The board that stands for this book, with all places that aren't in use 0.
-    pub fn board(&self) -> Board {
-        let mut board = Board {
-            horizon: self.horizon as u32,
-            lead: self.lead as u32,
-            clock: self.clock as u32,
-            job_count: self.jobs.len() as u32,
-            ..Board::default()
-        };
-        for (job, own) in board.jobs.iter_mut().zip(&self.jobs) {
-            job.points = own.points.len() as u32;
-            job.batch = own.batch;
-            job.sent = u32::from(own.sent);
-        }
-        let mut live = vec![ORIGIN];
-        live.extend(self.live_points());
-        let number = |point| live.iter().position(|&one| one == point);
-        for (line, own) in board.lines.iter_mut().zip(&self.lines) {
-            line.count = own.len() as u32;
-            for (one, own) in line.uses.iter_mut().zip(own) {
-                one.point = number(own.point).expect("a use has a live point") as u32;
-                one.offset = own.offset as u32;
-                one.length = own.length as u32;
-            }
-        }
-        for (row, &from) in board.cells.iter_mut().zip(&live) {
-            let latest = latest_after(from, self.points, &self.rules);
-            for (cell, &to) in row.iter_mut().zip(&live) {
-                *cell = (latest[to] + i64::from(ZERO_GAP)) as u32;
-            }
-        }
-        board
-    }
-}
-
-impl From<&super::Use> for Use {
-    fn from(one: &super::Use) -> Self {
-        Use {
-            point: one.point as usize,
-            offset: i64::from(one.offset),
-            length: i64::from(one.length),
-        }
     }
 }

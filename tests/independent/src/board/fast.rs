@@ -5,10 +5,10 @@ mod parts;
 mod table;
 
 use super::{
-    Board, BoardCalls, Row, BOARD_WORDS, MOST_HORIZON, MOST_JOBS, MOST_LEAD, MOST_POINTS,
-    MOST_USES, RESOURCES, SIDE, ZERO_GAP,
+    Board, BoardCalls, Row, BOARD_WORDS, JOB_WORDS, MOST_HORIZON, MOST_JOBS, MOST_LEAD,
+    MOST_POINTS, MOST_USES, RESOURCES, SIDE, ZERO_GAP,
 };
-use crate::facts::check_facts;
+use crate::facts::check_facts_and_due;
 use crate::offer::Offer;
 use crate::plant::Plant;
 use crate::ruling::Refusal;
@@ -30,8 +30,8 @@ pub fn plan(words: &mut [u32], plant: &[u8], offer: &[u8]) -> Result<(), Refusal
     let plant = Plant::read(plant)?;
     let board = Parts::of_sound(words)?;
     let offer = Offer::read(&plant, offer)?;
-    check_facts(&offer)?;
     let [horizon, lead, clock, job_count] = *board.header;
+    check_facts_and_due(&offer, horizon)?;
     let jobs = job_count as usize;
     let points = offer.chain().len() + 1;
     // Live points with the origin are one more than those beside it.
@@ -51,13 +51,17 @@ pub fn plan(words: &mut [u32], plant: &[u8], offer: &[u8]) -> Result<(), Refusal
     }
     let mut lines = *board.lines;
     put_in_lines(&mut lines, &mut table, &offer, first)?;
-    if let Some(last) = board.last_of_batch(offer.batch) {
-        table.at_least(last, first + points - 1, 0)?;
+    let last = first + points - 1;
+    if let Some(before) = board.last_of_batch(offer.batch) {
+        table.at_least(before, last, 0)?;
+    }
+    if offer.due != 0 {
+        table.at_most(0, last, offer.due as i32)?;
     }
 
     table.store(board.cells);
     *board.lines = lines;
-    board.jobs[jobs] = [points as u32, offer.batch, 0];
+    board.jobs[jobs] = [points as u32, offer.batch, 0, offer.due];
     board.header[3] += 1;
     Ok(())
 }
@@ -122,7 +126,7 @@ pub fn send(words: &mut [u32], place: u32) -> Result<(), Refusal> {
     }
     let mut table = Table::load(board.cells, board.live);
     let mut first = 1;
-    for [points, _, sent] in &mut board.jobs[..=place] {
+    for [points, _, sent, _] in &mut board.jobs[..=place] {
         let after = first + *points as usize;
         if *sent == 0 {
             *sent = 1;
@@ -144,7 +148,7 @@ pub fn clock(words: &mut [u32], to: u32) -> Result<(), Refusal> {
     }
     let mut table = Table::load(board.cells, board.live);
     let mut first = 1;
-    for [points, _, sent] in &board.jobs[..jobs as usize] {
+    for [points, _, sent, _] in &board.jobs[..jobs as usize] {
         if *sent == 0 {
             let rule = table.at_least(0, first, (to + lead) as i32);
             rule.map_err(|_| Refusal::NoneAfterClock)?;
@@ -159,7 +163,7 @@ pub fn clock(words: &mut [u32], to: u32) -> Result<(), Refusal> {
 pub fn retire(words: &mut [u32]) -> Result<(), Refusal> {
     let board = Parts::of_sound(words)?;
     let [_, _, clock, jobs] = *board.header;
-    let [points, _, sent] = board.jobs[0];
+    let [points, _, sent, _] = board.jobs[0];
     if jobs == 0 || sent == 0 {
         return Err(Refusal::NotRetired);
     }
@@ -174,7 +178,7 @@ pub fn retire(words: &mut [u32]) -> Result<(), Refusal> {
         return Err(Refusal::NotRetired);
     }
     board.jobs.copy_within(1.., 0);
-    board.jobs[MOST_JOBS - 1] = [0; 3];
+    board.jobs[MOST_JOBS - 1] = [0; JOB_WORDS];
     board.header[3] -= 1;
     board
         .lines
@@ -218,7 +222,7 @@ pub fn report(words: &mut [u32], list: &mut [Row]) -> Result<usize, Refusal> {
     let rows = list.get_mut(..count).ok_or(Refusal::ShortList)?;
     let mut rows = rows.iter_mut();
     let mut number = 1;
-    for (job, &[points, _, _]) in (0..board.header[3]).zip(board.jobs.iter()) {
+    for (job, &[points, ..]) in (0..board.header[3]).zip(board.jobs.iter()) {
         for (point, row) in (0..points).zip(&mut rows) {
             *row = Row {
                 job,

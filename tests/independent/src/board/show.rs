@@ -30,7 +30,7 @@ impl fmt::Display for State<'_> {
         for job in jobs {
             // A mark that is neither 1 nor 0 shows as 0.
             let sent = u32::from(job.sent == 1);
-            write!(f, "\nj {} {} {sent}", job.points, job.batch)?;
+            write!(f, "\nj {} {} {sent} {}", job.points, job.batch, job.due)?;
         }
         for (resource, line) in self.0.lines.iter().enumerate() {
             let uses = line.in_use();

@@ -1,5 +1,5 @@
-//! Refusal 6 by document 01's definition of a sound board, clause by clause. Places not in use
-//! aren't looked at.
+//! Refusal 6 by document 01's definition of a sound board, clause by clause, with the limits of
+//! document 02. Places not in use aren't looked at.
 
 use super::{
     Board, MOST_HORIZON, MOST_JOBS, MOST_JOB_POINTS, MOST_LEAD, MOST_POINTS, MOST_USES, SIDE,
@@ -33,7 +33,7 @@ fn counts_are_within_limits(board: &Board) -> bool {
 fn numbers_are_within_limits(board: &Board) -> bool {
     let jobs_are = board.jobs_in_use().iter().all(|job| {
         let most = MOST_JOB_POINTS as u32;
-        (2..=most).contains(&job.points) && job.sent <= 1
+        (2..=most).contains(&job.points) && job.sent <= 1 && job.due <= board.horizon
     });
     let uses_are = board.lines.iter().all(|line| {
         let mut uses = line.in_use().iter();

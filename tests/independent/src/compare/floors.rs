@@ -1,6 +1,6 @@
 //! How much a log must show, by what it is about.
 
-use super::sights::Sight;
+use super::sights::{DueSight, Sight};
 use crate::kind::Kind;
 
 /// What a log must show of one call.
@@ -44,7 +44,9 @@ const BOARD: [Floor; 7] = [
     },
     Floor {
         call: "plan",
-        numbers: &[0, 1, 2, 3, 4, 6, 7, 8, 9, 10, 11, 12, 13, 14, 15, 16, 17],
+        numbers: &[
+            0, 1, 2, 3, 4, 6, 7, 8, 9, 10, 11, 12, 13, 14, 15, 16, 17, 23,
+        ],
         ends: &[(8, 7), (11, 7), (12, 7), (13, 31), (15, 31), (16, 31)],
     },
     Floor {
@@ -120,6 +122,40 @@ const BOARD_SIGHTS: [(Sight, usize); 29] = [
     (Sight::HundredsRetired, 4),
 ];
 
+const READ_DUES: [(DueSight, usize); 3] = [
+    (DueSight::FactPassed, 500),
+    (DueSight::FactFailed, 500),
+    (DueSight::CutWithin, 10),
+];
+
+const BOARD_DUES: [(DueSight, usize); 25] = [
+    (DueSight::Idle, 300),
+    (DueSight::Binding, 300),
+    (DueSight::JustInTime, 300),
+    (DueSight::AtHorizon, 100),
+    (DueSight::AtOne, 100),
+    (DueSight::TooSoon, 300),
+    (DueSight::OneTooSoon, 100),
+    (DueSight::OtherPlace, 5),
+    (DueSight::OnePast, 100),
+    (DueSight::FarPast, 100),
+    (DueSight::PastBothWays, 20),
+    (DueSight::PastUndone, 15),
+    (DueSight::PastClash, 12),
+    (DueSight::PastLacking, 15),
+    (DueSight::FactPassed, 20),
+    (DueSight::FactFailed, 20),
+    (DueSight::CutWithin, 10),
+    (DueSight::ByHand, 100),
+    (DueSight::ByHandAtHorizon, 100),
+    (DueSight::ByHandNotKept, 100),
+    (DueSight::ByHandNotInUse, 20),
+    (DueSight::ByHandOnePast, 10),
+    (DueSight::ByHandFarPast, 10),
+    (DueSight::EqualTables, 10),
+    (DueSight::OtherTables, 10),
+];
+
 /// How often each number of a floor must be seen.
 pub fn least_seen(kind: Kind) -> usize {
     match kind {
@@ -137,10 +173,14 @@ pub fn floors(kind: Kind) -> &'static [Floor] {
 }
 
 /// How often each of these must be seen.
-pub fn sights(kind: Kind) -> &'static [(Sight, usize)] {
-    match kind {
-        Kind::Read => &READ_SIGHTS,
-        Kind::Board => &BOARD_SIGHTS[..BOARD_SIGHTS.len() - 1],
-        Kind::Retire => &BOARD_SIGHTS,
-    }
+pub fn sights(kind: Kind) -> Vec<(Sight, usize)> {
+    let (sights, dues): (&[_], &[_]) = match kind {
+        Kind::Read => (&READ_SIGHTS, &READ_DUES),
+        Kind::Board => (&BOARD_SIGHTS[..BOARD_SIGHTS.len() - 1], &BOARD_DUES),
+        Kind::Retire => (&BOARD_SIGHTS, &BOARD_DUES),
+    };
+    let dues = dues
+        .iter()
+        .map(|&(sight, least)| (Sight::Due(sight), least));
+    sights.iter().copied().chain(dues).collect()
 }

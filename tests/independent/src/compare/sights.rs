@@ -1,8 +1,12 @@
 //! What else than numbers a log can show.
 
+mod due;
+
 use crate::board::{MOST_JOBS, MOST_POINTS, MOST_USES, SIDE};
 use crate::replay::Answer;
 use crate::write::MOST_FILE;
+
+pub use due::DueSight;
 
 #[derive(Clone, Copy, Debug, PartialEq, Eq, PartialOrd, Ord)]
 pub enum Sight {
@@ -71,6 +75,7 @@ pub enum Sight {
     NoRoom,
     /// A board from which 200 jobs have retired.
     HundredsRetired,
+    Due(DueSight),
 }
 
 impl Sight {
@@ -117,6 +122,7 @@ impl Sight {
             Sight::OneShort => "reports with room for one row less",
             Sight::NoRoom => "reports of rows with no room",
             Sight::HundredsRetired => "boards from which 200 jobs retired",
+            Sight::Due(sight) => sight.name(),
         }
     }
 

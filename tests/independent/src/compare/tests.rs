@@ -1,3 +1,5 @@
+mod dues;
+
 use super::*;
 use crate::board::{Board, BOARD_WORDS};
 use crate::generate::draft::{plant_file, proving_offer, proving_plant};
@@ -42,7 +44,10 @@ fn answers_of_more_lines_are_compared_whole() {
         ("= 0\ntable 1\nt 1\nstate 0 0\n= 19\n", "got      t 1"),
         ("= 0\ntable 1\nstate 0 0\n= 19\n", "expected t 0"),
         ("= 0\ntable 1\nt 0\nt 0\nstate 0 0\n= 19\n", "got      t 0"),
-        ("= 0\ntable 1\nt 0\nstate 0 0\nj 2 0 0\n= 19\n", "j 2 0 0"),
+        (
+            "= 0\ntable 1\nt 0\nstate 0 0\nj 2 0 0 9\n= 19\n",
+            "j 2 0 0 9",
+        ),
     ];
     for (answers, text) in cases {
         let told = told(log, answers);

@@ -1,6 +1,7 @@
 //! Lists of board calls: first lists that go through every limit, then random ones. A list knows
 //! the board it has reached, so that it can ask for what is just possible and what just isn't.
 
+mod dues;
 mod fields;
 mod hand;
 mod limits;
@@ -21,8 +22,13 @@ use script::Script;
 type Scenario = fn(&mut Rng, &mut Script);
 
 /// The lists that come first in every log.
-const SYSTEMATIC: [(&str, Scenario); 20] = [
+const SYSTEMATIC: [(&str, Scenario); 25] = [
     ("proving", proving::proving),
+    ("due-cases", dues::cases),
+    ("due-sides", dues::sides),
+    ("due-turns", dues::turns),
+    ("due-pairs", dues::pairs),
+    ("due-words", dues::words),
     ("freshes", limits::freshes),
     ("rooms", limits::rooms),
     ("queues", limits::queues),

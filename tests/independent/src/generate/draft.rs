@@ -125,6 +125,8 @@ pub struct OfferDraft {
     pub batch: u32,
     pub known: Facts,
     pub goal: Facts,
+    /// 0 is no due time.
+    pub due: u32,
     pub steps: Vec<StepDraft>,
     /// The step count that is written, if not the true one.
     pub claimed_steps: Option<u32>,
@@ -133,7 +135,7 @@ pub struct OfferDraft {
 }
 
 impl OfferDraft {
-    /// An offer of these actions, all places 0.
+    /// An offer of these actions, all places 0, with no due time.
     pub fn new(known: Facts, goal: Facts, actions: &[ActionDraft], chain: &[usize]) -> Self {
         let step = |&action: &usize| StepDraft {
             action: action as u32,
@@ -161,6 +163,12 @@ impl OfferDraft {
         }
     }
 
+    /// The same with this due time.
+    pub fn due(mut self, due: u32) -> Self {
+        self.due = due;
+        self
+    }
+
     pub fn bytes(&self) -> Vec<u8> {
         let mut bytes = Vec::new();
         push_words(
@@ -168,10 +176,8 @@ impl OfferDraft {
             &[self.batch, self.known.positive, self.known.negative],
         );
         push_words(&mut bytes, &[self.goal.positive, self.goal.negative]);
-        push_words(
-            &mut bytes,
-            &[self.claimed_steps.unwrap_or(self.steps.len() as u32)],
-        );
+        let step_count = self.claimed_steps.unwrap_or(self.steps.len() as u32);
+        push_words(&mut bytes, &[step_count, self.due]);
         for step in &self.steps {
             push_words(&mut bytes, &[step.action]);
             push_words(&mut bytes, &step.places);

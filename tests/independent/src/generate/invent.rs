@@ -64,6 +64,8 @@ fn add_jobs(rng: &mut Rng, board: &mut Board, flaw: Flaw) {
         job.points = (2 + rng.below(8)).min(room) as u32;
         job.batch = rng.pick(&[0, 0, 1, 2, u32::MAX]);
         job.sent = u32::from(number < sent);
+        // The table need not keep it.
+        job.due = rng.pick(&[0, 0, 1, board.horizon / 2, board.horizon]);
         board.job_count += 1;
     }
     if let Flaw::JobPoints(points) = flaw {

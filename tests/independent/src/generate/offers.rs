@@ -5,10 +5,11 @@ use super::rng::Rng;
 use super::List;
 use crate::facts::Facts;
 use crate::log::MOST_BYTES;
+use crate::offer::HEADER_BYTES;
 
 const NONE: Facts = Facts::NONE;
 
-/// Step counts, unknown actions, places and left-over bytes.
+/// Step counts, unknown actions, places, left-over bytes and headers that are cut.
 pub fn formats(rng: &mut Rng, list: &mut List) {
     let count = 4;
     let allocations = [[1, 2, 3]; 4];
@@ -43,11 +44,25 @@ pub fn formats(rng: &mut Rng, list: &mut List) {
             list.fact(&offer.bytes());
         }
     }
+    cut_headers(list, &OfferDraft::new(NONE, NONE, &actions, &[0, 1, 2]));
     // As long as a log has a line for.
     for length in [MOST_BYTES - 1, MOST_BYTES] {
         let mut offer = OfferDraft::new(NONE, NONE, &actions, &[0, 1, 2]);
         offer.left_over = vec![rng.pick(&[0, 0xFF]); length - offer.bytes().len()];
         list.fact(&offer.bytes());
+    }
+}
+
+/// An offer cut at every byte of its header and of what follows, and one whose header ends without a
+/// due time: its steps begin four bytes too soon.
+fn cut_headers(list: &mut List, offer: &OfferDraft) {
+    for due in [0, 1, u32::MAX] {
+        let whole = offer.clone().due(due).bytes();
+        for cut in 0..=whole.len() {
+            list.fact(&whole[..cut]);
+        }
+        let without_due = [&whole[..HEADER_BYTES - 4], &whole[HEADER_BYTES..]].concat();
+        list.fact(&without_due);
     }
 }
 

@@ -1,10 +1,10 @@
 //! A small random number generator (splitmix64), so that a seed always gives the same log.
 
-/// Numbers at or beside a limit of document 01 or of a machine word.
-const EDGES: [u32; 36] = [
-    0, 1, 2, 3, 4, 5, 7, 8, 9, 11, 12, 13, 15, 16, 17, 23, 24, 25, 127, 128, 129, 255, 256, 65_535,
-    65_536, 999_999, 1_000_000, 1_000_001, 0x3FFFFFFF, 0x40000000, 0x7FFFFFFF, 0x80000000,
-    0xFFFFFFF0, 0xFFFFFFF4, 0xFFFFFFFE, 0xFFFFFFFF,
+/// Numbers at or beside a limit of documents 01 and 02 or of a machine word.
+const EDGES: [u32; 41] = [
+    0, 1, 2, 3, 4, 5, 7, 8, 9, 11, 12, 13, 15, 16, 17, 23, 24, 25, 27, 28, 29, 127, 128, 129, 255,
+    256, 65_535, 65_536, 999_999, 1_000_000, 1_000_001, 100000000, 100000001, 0x3FFFFFFF,
+    0x40000000, 0x7FFFFFFF, 0x80000000, 0xFFFFFFF0, 0xFFFFFFF4, 0xFFFFFFFE, 0xFFFFFFFF,
 ];
 
 pub struct Rng(u64);

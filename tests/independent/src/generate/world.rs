@@ -64,6 +64,8 @@ impl World {
 
         let mut offer = OfferDraft::new(known, goal, &self.actions, &chain);
         offer.batch = rng.edge();
+        // The facts are the same whatever the due time.
+        offer.due = rng.edge();
         for place in offer.steps.iter_mut().flat_map(|step| &mut step.places) {
             *place = rng.edge();
         }

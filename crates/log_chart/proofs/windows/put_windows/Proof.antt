@@ -13,11 +13,11 @@ use Rattle.log_chart.proofs.windows.put_windows.Statement.{statement}
 use Rattle.log_chart.proofs.windows.put_windows.Tie as tie
 
 abbrev Inv-loop : tie.InvT-loop
-Inv-loop out₀ at t w count width to₀ x₀ k₀ out to x k = (k ≤ count) × (width ≤ 22) × (length out ≡ length out₀)
+Inv-loop out₀ at t w count digits to₀ x₀ k₀ out to x k = (k ≤ count) × (digits ≤ 10) × (length out ≡ length out₀)
     × (x + total (drop k (jobsOf (heldJobs (wordIn w)))) ≡ 1 + total (jobsOf (heldJobs (wordIn w))))
 
 abbrev μ-loop : tie.MeasureT-loop
-μ-loop out₀ at t w count width to₀ x₀ k₀ out to x k = count - k
+μ-loop out₀ at t w count digits to₀ x₀ k₀ out to x k = count - k
 
 loop-holds : tie.Need-loop-holds Inv-loop μ-loop
 loop-holds c = (omega arith, omega arith, refl, refl)
@@ -30,7 +30,7 @@ put-job-requires c κs = let in-turn : tie.In-loop Inv-loop μ-loop = search in 
     let few = entry .pre .1 .0 .count in
     let read = c .before in
     let next = ap total (job-next w few (L .k) _ (in-turn .loop-test .taken) (read .job-at .ensures)) in
-    let some = job-some w few (entry .pre .1 .1) (L .k) _ (in-turn .loop-test .taken) (read .job-at .ensures) in
+    let some = job-some w _ few (entry .pre .1 .1) (L .k) _ (in-turn .loop-test .taken) (read .job-at .ensures) in
     (entry .pre .0 .0, omega (arith, few), some, omega (arith, next), L .inv .1)
 
 add-x : tie.Need-add-x Inv-loop μ-loop

@@ -22,7 +22,7 @@ abbrev state : tie.Start → State
 state c = withSettings (stateOf (boardIn (c .args .w .now))) (c .args .settings)
 
 abbrev offer : tie.Start → Offer
-offer c = heldOffer (c .args .batch) (c .args .steps) (allocationsIn (c .args .allocations .now) (c .args .many))
+offer c = heldOffer (c .args .batch) (c .args .due) (c .args .steps) (allocationsIn (c .args .allocations .now) (c .args .many))
 
 size : (c : tie.Start) → length (stepsOf (c .args .steps)) ≡ c .args .steps .count
 size c =
@@ -80,7 +80,7 @@ returns-3 c = let told : tie.After-enum-told = search in let placing : tie.After
     let begun = began .begin-rules in
     let placed = placing .place-all in
     drafted-made (state entry) (offer entry) (A .n + 1) (A .steps .count) first (sym (size entry)) (not-full passed) few (begun .result) (begun .ensures)
-    (placed .result .ruling) _ (placed .result .rules) (placed .ensures .0) (c .add-batch .result) (told .enum-told .given .1) (c .add-batch .ensures)
+    (placed .result .ruling) _ (placed .result .rules) (placed .ensures .0) (c .add-last-rules .result) (told .enum-told .given .1) (c .add-last-rules .ensures)
 
 pub draft-spec : {M : Type 1} → statement M
 draft-spec =

@@ -60,7 +60,7 @@ returns c = let tried : tie.After-place-one Inv-loop μ-loop = search in let at-
     let next = left-next (A .allocations .now) (A .many) (L .k) (omega arith) in
     let out = tried .place-one .ensures .2 (L .made) (Room-less (L .inv .1 .room) 2 (omega arith)) in
     let stops = stops-here (L .inv .1) (allocationAt (A .allocations .now) (L .k)) _ next out _ (c .before .ruling .given .1) in
-    (sym stops, Room-less (L .inv .1 .room) 1 (omega arith))
+    (sym stops, Room-less (L .inv .1 .room) 2 (omega arith))
 
 loop-again : tie.Need-loop-again Inv-loop μ-loop
 loop-again c = let told : tie.After-enum-told Inv-loop μ-loop = search in let tried : tie.After-place-one Inv-loop μ-loop = search in
@@ -82,7 +82,7 @@ returns-2 c = let entry : tie.Start Inv-loop μ-loop = search in let A = entry .
     let end : L .k ≡ A .many = omega arith in (
       ap (λ (i : ℕ). answered Accepted (allWith (A .first) (linesIn (A .w .now)) (allocationsIn (A .allocations .now) i)) (rulesOf (L .made))) (sym end)
           ∙ all-placed (L .inv .1) (left-over (A .allocations .now) (A .many) (L .k) (omega arith)),
-      Room-less (L .inv .1 .room) 1 (omega arith),
+      Room-less (L .inv .1 .room) 2 (omega arith),
     )
 
 pub place-all-spec : {M : Type 1} → statement M

@@ -24,7 +24,7 @@ returns : tie.Need-returns
 returns c = let cleared : tie.After-clear-jobs = search in let written : tie.After-write-job = search in let made : tie.After-new-job = search in
     let entry : tie.Start = search in let A = entry .args in let W = A .w .now in
     let is = written .write-job .ensures ∙ ap (λ (j : Job). overwritten W (jobStart (wordIn W countAt)) (jobWords j)) (made .new-job .ensures) in
-    add-front W (written .write-job .last .0) _ (newJob (A .points) (A .batch)) (omega arith) (omega arith) (entry .pre .2) is (cleared .clear-jobs .ensures)
+    add-front W (written .write-job .last .0) _ (newJob (A .points) (A .batch) (A .due)) (omega arith) (omega arith) (entry .pre .2) is (cleared .clear-jobs .ensures)
 
 pub add-job-spec : {M : Type 1} → statement M
 add-job-spec =

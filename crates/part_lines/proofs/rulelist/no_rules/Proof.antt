@@ -1,4 +1,4 @@
--- `no_rules` meets its contract: 0 in all 82 places is the empty list.
+-- `no_rules` meets its contract: 0 in every place is the empty list.
 use lib.ListN.{replicate}
 use mathlib.Core.List.{List}
 use mathlib.Core.Path.{ap, _∙_}

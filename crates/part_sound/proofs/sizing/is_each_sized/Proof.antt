@@ -14,11 +14,11 @@ use Rattle.part_sound.proofs.sizing.is_each_sized.Statement.{statement}
 use Rattle.part_sound.proofs.sizing.is_each_sized.Tie as tie
 
 abbrev Inv-loop : tie.InvT-loop
-Inv-loop w count ok₀ k₀ ok k =
-    (k ≤ count) × ((ok && allOf sizedJob (drop k (jobsOf (heldJobs (wordIn w))))) ≡ allOf sizedJob (jobsOf (heldJobs (wordIn w))))
+Inv-loop w horizon count ok₀ k₀ ok k =
+    (k ≤ count) × ((ok && allOf (sizedJob horizon) (drop k (jobsOf (heldJobs (wordIn w))))) ≡ allOf (sizedJob horizon) (jobsOf (heldJobs (wordIn w))))
 
 abbrev μ-loop : tie.MeasureT-loop
-μ-loop w count ok₀ k₀ ok k = count - k
+μ-loop w horizon count ok₀ k₀ ok k = count - k
 
 loop-holds : tie.Need-loop-holds Inv-loop μ-loop
 loop-holds c = (omega arith, refl)
@@ -27,7 +27,7 @@ loop-again : tie.Need-loop-again Inv-loop μ-loop
 loop-again c = let at-loop : tie.At-loop Inv-loop μ-loop = search in let entry : tie.Start Inv-loop μ-loop = search in let L = at-loop .loop in
     let w = wordIn (entry .args .w .now) in (
       omega arith,
-      all-next sizedJob (jobsOf (heldJobs w)) (L .k) (L .ok) _ _ (L .inv .1)
+      all-next (sizedJob (entry .args .horizon)) (jobsOf (heldJobs w)) (L .k) (L .ok) _ _ (L .inv .1)
           (job-next w (entry .pre .1) (L .k) _ (c .before .before .loop-test .taken) (c .before .job-at .ensures)) (c .is-job-sized .ensures),
     )
 
@@ -35,7 +35,7 @@ returns : tie.Need-returns Inv-loop μ-loop
 returns c = let entry : tie.Start Inv-loop μ-loop = search in
     let L = c .before .loop in
     let w = wordIn (entry .args .w .now) in
-    all-end sizedJob (jobsOf (heldJobs w)) (L .k) (L .ok) (L .inv .1) (job-over w (entry .pre .1) (L .k) (c .loop-test .left))
+    all-end (sizedJob (entry .args .horizon)) (jobsOf (heldJobs w)) (L .k) (L .ok) (L .inv .1) (job-over w (entry .pre .1) (L .k) (c .loop-test .left))
 
 pub is-each-sized-spec : {M : Type 1} → statement M
 is-each-sized-spec =

@@ -79,6 +79,11 @@ impl Times {
         (self.earliest[point] <= self.latest[point]).then_some(())
     }
 
+    /// Of a new point, whose earliest time is still 0.
+    pub fn not_after(&mut self, point: usize, time: i32) {
+        self.latest[point] = self.latest[point].min(time);
+    }
+
     /// Sets the points to their earliest times and gives those that this changes.
     pub fn freeze(&mut self, points: Range<usize>) -> Points {
         let mut changed = Points::NONE;

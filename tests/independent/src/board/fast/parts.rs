@@ -1,8 +1,8 @@
 //! The parts of a board's words, and whether they are sound.
 
 use crate::board::{
-    BOARD_WORDS, MOST_HORIZON, MOST_JOBS, MOST_JOB_POINTS, MOST_LEAD, MOST_POINTS, MOST_USES,
-    RESOURCES, SIDE, ZERO_GAP,
+    BOARD_WORDS, JOB_WORDS, MOST_HORIZON, MOST_JOBS, MOST_JOB_POINTS, MOST_LEAD, MOST_POINTS,
+    MOST_USES, RESOURCES, SIDE, ZERO_GAP,
 };
 use crate::plant::MOST_TIME;
 use crate::ruling::Refusal;
@@ -13,8 +13,8 @@ type Line = [u32; 1 + 3 * MOST_USES];
 pub struct Parts<'a> {
     /// Horizon, lead, clock and job count.
     pub header: &'a mut [u32; 4],
-    /// Points, batch and sent of each job.
-    pub jobs: &'a mut [[u32; 3]; MOST_JOBS],
+    /// Points, batch, sent and due time of each job.
+    pub jobs: &'a mut [[u32; JOB_WORDS]; MOST_JOBS],
     pub lines: &'a mut [Line; RESOURCES],
     pub cells: &'a mut [[u32; SIDE]; SIDE],
     /// The number of live points, the origin included.
@@ -34,19 +34,20 @@ impl<'a> Parts<'a> {
         parts.ok_or(Refusal::Unsound)
     }
 
-    /// `None` where there are too many jobs or points, or not as many words as a board has.
+    /// `None` where there are too many jobs or points, a due time is past the horizon, or the words
+    /// are not as many as a board has.
     fn split(words: &'a mut [u32]) -> Option<Self> {
         if words.len() != BOARD_WORDS {
             return None;
         }
         let (header, rest) = words.split_first_chunk_mut()?;
-        let (jobs, rest) = rest.split_at_mut(3 * MOST_JOBS);
+        let (jobs, rest) = rest.split_at_mut(JOB_WORDS * MOST_JOBS);
         let (lines, cells) = rest.split_at_mut(RESOURCES * size_of::<Line>() / 4);
-        let jobs: &mut [[u32; 3]; MOST_JOBS] = jobs.as_chunks_mut().0.try_into().ok()?;
-        let [_, _, _, job_count] = *header;
+        let jobs: &mut [[u32; JOB_WORDS]; MOST_JOBS] = jobs.as_chunks_mut().0.try_into().ok()?;
+        let [horizon, _, _, job_count] = *header;
         let mut live = 1;
-        for [points, _, _] in jobs.get(..job_count as usize)? {
-            if *points < 2 || *points > MOST_JOB_POINTS as u32 {
+        for [points, _, _, due] in jobs.get(..job_count as usize)? {
+            if *points < 2 || *points > MOST_JOB_POINTS as u32 || *due > horizon {
                 return None;
             }
             live += *points as usize;
@@ -83,7 +84,7 @@ impl<'a> Parts<'a> {
     fn sent_jobs_are_sound(&self) -> bool {
         let mut first = 1;
         let mut unsent_before = false;
-        for &[points, _, sent] in &self.jobs[..self.header[3] as usize] {
+        for &[points, _, sent, _] in &self.jobs[..self.header[3] as usize] {
             let after = first + points as usize;
             let mut points = first..after;
             let settled = match sent {
@@ -138,7 +139,7 @@ impl<'a> Parts<'a> {
     /// The last point of the newest job of a batch.
     pub fn last_of_batch(&self, batch: u32) -> Option<usize> {
         let mut after = self.live;
-        for [points, job_batch, _] in self.jobs[..self.header[3] as usize].iter().rev() {
+        for [points, job_batch, ..] in self.jobs[..self.header[3] as usize].iter().rev() {
             if batch != 0 && *job_batch == batch {
                 return Some(after - 1);
             }

@@ -48,6 +48,30 @@ fn numbers_have_limits() {
 }
 
 #[test]
+fn due_times_are_within_the_horizon() {
+    for job in [0, 1] {
+        for (due, sound) in [(0, true), (1_000, true), (1_001, false), (u32::MAX, false)] {
+            assert_eq!(with(|board| board.jobs[job].due = due), sound, "{due}");
+        }
+    }
+    // The horizon decides, not the largest one.
+    let with_horizon = |horizon| {
+        with(|board| {
+            board.horizon = horizon;
+            board.jobs[1].due = 1_001;
+        })
+    };
+    assert!(with_horizon(1_001) && !with_horizon(1_000));
+}
+
+#[test]
+fn a_due_time_need_not_be_kept_by_the_table() {
+    // The older job ends at 20, the newer one up to 1,000.
+    assert!(with(|board| board.jobs[0].due = 19));
+    assert!(with(|board| board.jobs[1].due = 1));
+}
+
+#[test]
 fn jobs_have_2_to_9_points_and_all_of_the_live_ones() {
     for points in [[1, 5], [2, 3], [3, 2], [3, 4], [0, 6]] {
         let given = |board: &mut Board| {
@@ -151,6 +175,7 @@ fn places_not_in_use_are_not_looked_at() {
     assert!(with(|board| {
         board.jobs[2].points = 1;
         board.jobs[15].sent = 2;
+        (board.jobs[2].due, board.jobs[15].due) = (1_001, u32::MAX);
         board.lines[0].uses[2].point = 77;
         board.lines[1].uses[0].length = u32::MAX;
     }));

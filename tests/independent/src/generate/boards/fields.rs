@@ -1,14 +1,17 @@
 //! Every kind of field that a board's words have, and ways to change a word.
 
-use crate::board::{Board, BOARD_WORDS, MOST_JOBS, MOST_USES, SIDE};
+use crate::board::{
+    Board, BOARD_WORDS, HEADER_WORDS, JOB_WORDS, LINE_WORDS, MOST_JOBS, MOST_USES, SIDE,
+};
 use crate::generate::rng::Rng;
 
-const JOBS: usize = 4;
-const LINES: usize = JOBS + 3 * MOST_JOBS;
-const LINE: usize = 1 + 3 * MOST_USES;
+const LINES: usize = HEADER_WORDS + JOB_WORDS * MOST_JOBS;
 const CELLS: usize = BOARD_WORDS - SIDE * SIDE;
 
-pub const KINDS: usize = 26;
+/// Where among a job's words it says whether the job is sent.
+const SENT: usize = 2;
+
+pub const KINDS: usize = 28;
 
 /// Where a field of this kind is among the words; `None` if the board has none.
 pub fn field(rng: &mut Rng, board: &Board, kind: usize) -> Option<usize> {
@@ -21,22 +24,21 @@ pub fn field(rng: &mut Rng, board: &Board, kind: usize) -> Option<usize> {
         .iter()
         .take_while(|job| job.sent == 1)
         .count();
+    let of_job = |job: usize, word: usize| HEADER_WORDS + JOB_WORDS * job + word;
     let cell = |row: Option<usize>, column: Option<usize>| Some(CELLS + SIDE * row? + column?);
     match kind {
         0..4 => Some(kind),
         // Jobs in use, then others.
-        4..7 => Some(JOBS + 3 * within(0, jobs)? + kind - 4),
-        7..10 => Some(JOBS + 3 * within(jobs, MOST_JOBS)? + kind - 7),
+        4..8 => Some(of_job(within(0, jobs)?, kind - 4)),
+        8..12 => Some(of_job(within(jobs, MOST_JOBS)?, kind - 8)),
         // The jobs at which sent turns to unsent.
-        10 => {
-            Some(JOBS + 3 * within(first_unsent, first_unsent + 1).filter(|&job| job < jobs)? + 2)
-        }
-        11 => Some(JOBS + 3 * first_unsent.checked_sub(1)? + 2),
-        12 => Some(JOBS + 2).filter(|_| jobs > 0),
+        12 => (first_unsent < jobs).then(|| of_job(first_unsent, SENT)),
+        13 => Some(of_job(first_unsent.checked_sub(1)?, SENT)),
+        14 => (jobs > 0).then(|| of_job(0, SENT)),
         // Counts of lines, then uses that are and aren't in use.
-        13 => Some(LINES + LINE * within(0, 16)?),
-        14..20 => {
-            let in_use = kind < 17;
+        15 => Some(LINES + LINE_WORDS * within(0, 16)?),
+        16..22 => {
+            let in_use = kind < 19;
             let line = (0..16).filter(|&line| {
                 let count = board.lines[line].in_use().len();
                 if in_use {
@@ -53,14 +55,14 @@ pub fn field(rng: &mut Rng, board: &Board, kind: usize) -> Option<usize> {
             } else {
                 (count, MOST_USES)
             };
-            Some(LINES + LINE * line + 1 + 3 * within(from, to)? + (kind - 14) % 3)
+            Some(LINES + LINE_WORDS * line + 1 + 3 * within(from, to)? + (kind - 16) % 3)
         }
         // Cells: the diagonal, the origin's row and column, of two live points, of others.
-        20 => within(0, live).map(|point| CELLS + (SIDE + 1) * point),
-        21 => cell(Some(0), within(1, live)),
-        22 => cell(within(1, live), Some(0)),
-        23 => cell(within(1, live), within(1, live)),
-        24 => cell(within(0, live), within(live, SIDE)),
+        22 => within(0, live).map(|point| CELLS + (SIDE + 1) * point),
+        23 => cell(Some(0), within(1, live)),
+        24 => cell(within(1, live), Some(0)),
+        25 => cell(within(1, live), within(1, live)),
+        26 => cell(within(0, live), within(live, SIDE)),
         _ => cell(within(live, SIDE), within(0, SIDE)),
     }
 }

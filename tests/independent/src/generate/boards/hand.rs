@@ -150,7 +150,8 @@ pub fn try_calls(rng: &mut Rng, script: &mut Script, press: &Press, board: &Boar
 fn litter(rng: &mut Rng, board: &mut Board) {
     let jobs = board.jobs_in_use().len();
     for job in &mut board.jobs[jobs..] {
-        (job.points, job.batch, job.sent) = (rng.edge(), rng.edge(), rng.edge());
+        (job.points, job.batch) = (rng.edge(), rng.edge());
+        (job.sent, job.due) = (rng.edge(), rng.edge());
     }
     for line in board.lines.iter_mut() {
         let count = line.in_use().len();

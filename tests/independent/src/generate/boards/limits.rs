@@ -5,7 +5,7 @@ use super::script::Script;
 use crate::board::{MOST_HORIZON, MOST_JOBS, MOST_LEAD, MOST_POINTS, MOST_USES};
 use crate::generate::draft::{plant_file, proving_offer, proving_plant};
 use crate::generate::rng::Rng;
-use crate::offer::MOST_STEPS;
+use crate::offer::{HEADER_BYTES, MOST_STEPS};
 use crate::plant::MOST_TIME;
 
 /// Horizons and leads, and every call on the board of a refused fresh.
@@ -44,7 +44,7 @@ pub fn freshes(_: &mut Rng, script: &mut Script) {
 fn every_call(script: &mut Script) {
     script.show();
     script.plan(&proving_offer());
-    script.plan_bytes(vec![0; 23]);
+    script.plan_bytes(vec![0; HEADER_BYTES - 1]);
     script.send(0);
     script.clock(0);
     script.clock(u32::MAX);

@@ -41,7 +41,7 @@ pub fn near(rng: &mut Rng, script: &mut Script) {
     }
 }
 
-const NEAR_HEADERS: usize = 9;
+const NEAR_HEADERS: usize = 13;
 
 /// A number of the header or of a job at its limit or just past it.
 fn near_header(board: &mut Board, number: usize) {
@@ -55,6 +55,10 @@ fn near_header(board: &mut Board, number: usize) {
         5 => board.horizon = MOST_HORIZON + 1,
         6 => board.jobs[last].sent = 2,
         7 => board.jobs[last].batch = u32::MAX,
+        8 => board.jobs[last].due = 1,
+        9 => board.jobs[last].due = board.horizon,
+        10 => board.jobs[last].due = board.horizon + 1,
+        11 => board.jobs[0].due = u32::MAX,
         _ => board.jobs[0].sent = 0,
     }
 }

@@ -17,6 +17,8 @@ const TOO_LONG: usize = 4;
 const USES_FULL_LINE: usize = 5;
 
 const HORIZON: u32 = 1_000;
+/// A due time before the end that six steps of a millisecond each have.
+const TOO_SOON: u32 = 5;
 
 fn actions() -> Vec<ActionDraft> {
     let yes = |fact: u32| Facts::new(1 << fact, 0);
@@ -33,19 +35,21 @@ fn actions() -> Vec<ActionDraft> {
 
 type Fault = fn(&mut OfferDraft);
 
-/// One fault for each of refusals 7 to 13, 15 to 17.
-const FAULTS: [Fault; 11] = [
+/// One fault or more for each of refusals 7 to 13, 15 to 17 and 23.
+const FAULTS: [Fault; 13] = [
     |offer| offer.claimed_steps = Some(9),
     |offer| offer.steps[1].action = 99,
     |offer| offer.left_over.push(0),
     |offer| offer.known = Facts::new(8, 8),
     |offer| offer.goal.negative |= offer.goal.positive,
+    |offer| offer.due = HORIZON + 1,
     |offer| offer.steps[1] = step(UNDOES),
     |offer| offer.steps[2] = step(CLASHES),
     |offer| offer.steps[3] = step(LACKS),
     |offer| offer.steps[0].places[0] = 33,
     |offer| offer.steps[4] = step(USES_FULL_LINE),
     |offer| offer.steps[5] = step(TOO_LONG),
+    |offer| offer.due = TOO_SOON,
 ];
 
 fn step(action: usize) -> crate::generate::draft::StepDraft {
@@ -80,6 +84,10 @@ pub fn orders(_: &mut Rng, script: &mut Script) {
                     second(&mut offer);
                     first(&mut offer);
                     script.plan(&offer);
+                    // The fact check goes on where plan stops at the due time.
+                    if offer.due > HORIZON {
+                        script.fact(&offer);
+                    }
                 }
             }
             script.plan(&offer());

@@ -53,6 +53,12 @@ impl Press {
         plant_file(&self.world.actions)
     }
 
+    pub fn longest_use(&self) -> u32 {
+        let allocations = self.world.actions.iter().flat_map(|one| &one.allocations);
+        let lengths = allocations.map(|[_, _, length]| *length);
+        lengths.max().unwrap_or_default()
+    }
+
     pub fn horizon(&self, rng: &mut Rng) -> u32 {
         let units = rng.pick(&[5, 12, 30, 60, 60, 150, 400, 2_000]);
         let horizon = self.unit * units + rng.below(3) as u32;
@@ -72,9 +78,9 @@ impl Press {
         lead.min(MOST_LEAD)
     }
 
-    /// An offer whose facts pass, with places for the board reached.
+    /// An offer whose facts pass, with places for the board reached and no due time.
     pub fn offer(&self, rng: &mut Rng, book: Option<&RuleBook>) -> OfferDraft {
-        let mut offer = self.world.passing_offer(rng);
+        let mut offer = self.world.passing_offer(rng).due(0);
         offer.steps.truncate(self.steps);
         offer.batch = rng.pick(&self.batches);
         let mood = rng.below(20);

@@ -1,12 +1,14 @@
 //! Random lists of board calls: most offers are made to be accepted, and most numbers lie at a
 //! limit of the board reached.
 
+use super::dues::{any_due, past_horizon};
 use super::hand;
 use super::limits::limits;
 use super::press::Press;
 use super::script::Script;
 use crate::board::{MOST_HORIZON, MOST_JOBS};
 use crate::generate::damage::{damage_bytes, damage_facts, damage_format};
+use crate::generate::draft::OfferDraft;
 use crate::generate::random::bad_plant;
 use crate::generate::rng::Rng;
 
@@ -61,24 +63,37 @@ fn report(rng: &mut Rng, script: &mut Script) {
     script.report(room);
 }
 
-fn plan(rng: &mut Rng, script: &mut Script, press: &Press) {
+/// An offer whose facts pass, with places and a due time for the board reached.
+fn offer(rng: &mut Rng, script: &Script, press: &Press) -> OfferDraft {
     let offer = press.offer(rng, script.book());
+    let due = any_due(rng, script, &offer);
+    offer.due(due)
+}
+
+fn plan(rng: &mut Rng, script: &mut Script, press: &Press) {
+    let offer = offer(rng, script, press);
     script.plan(&offer);
 }
 
 fn plan_wrong_facts(rng: &mut Rng, script: &mut Script, press: &Press) {
-    let mut offer = press.offer(rng, script.book());
+    let mut offer = offer(rng, script, press);
+    if rng.one_in(4) {
+        offer.due = past_horizon(rng, script);
+    }
     // Where the plant has no facts, there is one now.
     let mut world = press.world.clone();
     world.facts |= 1 << rng.below(32);
     for _ in 0..1 + rng.below(3) {
         damage_facts(rng, &world, &mut offer);
     }
-    script.plan(&offer);
+    // The fact check goes on where plan stops at the due time.
+    if script.plan(&offer) == 23 {
+        script.fact(&offer);
+    }
 }
 
 fn plan_wrong_format(rng: &mut Rng, script: &mut Script, press: &Press) {
-    let mut offer = press.offer(rng, script.book());
+    let mut offer = offer(rng, script, press);
     if rng.one_in(3) {
         let mut bytes = offer.bytes();
         damage_bytes(rng, &mut bytes);
@@ -153,6 +168,8 @@ fn oldest_end(script: &Script) -> Option<u32> {
 /// How many jobs a season retires, and the most rounds it takes for that.
 const SEASON_JOBS: usize = 250;
 const SEASON_ROUNDS: usize = 600;
+/// The longest use of a season: hundreds that take much longer would reach the horizon.
+const SEASON_USE: u32 = 10_000;
 
 /// Hundreds of jobs on one board: they come, are sent, end and retire, so that points, lines and
 /// places in the job list are used again and again.
@@ -186,11 +203,11 @@ pub fn season(rng: &mut Rng, script: &mut Script) {
 }
 
 /// A press most of whose offers are accepted, tried on a fresh board that the season goes on with.
-/// Its steps are short, so that the horizon is far away.
+/// Its steps and uses are short, so that the horizon is far away.
 fn willing_press(rng: &mut Rng, script: &mut Script) -> Press {
     loop {
         let press = Press::random(rng);
-        if press.unit > 300 {
+        if press.unit > 300 || press.longest_use() > SEASON_USE {
             continue;
         }
         script.plant(press.file());

@@ -5,6 +5,8 @@ use crate::board::Board;
 use crate::generate::draft::OfferDraft;
 use crate::generate::writes::written_back;
 use crate::log::{Item, MOST_ROWS};
+use crate::offer::Offer;
+use crate::plant::Plant;
 use crate::replay::{Answer, Session};
 
 pub struct Script {
@@ -55,6 +57,11 @@ impl Script {
 
     pub fn plan_bytes(&mut self, offer: Vec<u8>) -> u32 {
         self.add(Item::Plan(offer))
+    }
+
+    /// The fact check of an offer, which sees no board.
+    pub fn fact(&mut self, offer: &OfferDraft) {
+        self.add(Item::Fact(offer.bytes()));
     }
 
     pub fn send(&mut self, place: u32) -> u32 {
@@ -108,6 +115,21 @@ impl Script {
     /// The rule book of the board reached, where that is sound.
     pub fn book(&self) -> Option<&RuleBook> {
         self.session.board().book().ok()
+    }
+
+    /// The earliest and the latest end that the board reached would give the offer's job without its
+    /// due time; `None` where it refuses the offer.
+    pub fn end_without_due(&self, offer: &OfferDraft) -> Option<(u32, u32)> {
+        let bytes = offer.bytes();
+        let plant = Plant::read(self.session.plant()).ok()?;
+        let offer = Offer::read(&plant, &bytes).ok()?;
+        let (earliest, latest) = self.book()?.end_without_due(&offer).ok()?;
+        Some((earliest as u32, latest as u32))
+    }
+
+    /// The horizon of the board reached; 0 where that isn't sound.
+    pub fn horizon(&self) -> u32 {
+        self.book().map_or(0, |book| book.horizon as u32)
     }
 
     /// The board reached.
