@@ -19,6 +19,7 @@ pub use rulelist::end_of;
 pub use rulelist::in_order;
 pub use rulelist::no_rule;
 pub use rulelist::no_rules;
+pub use rulelist::not_after;
 pub use rulelist::not_before;
 pub use rulelist::one_rule;
 pub use rulelist::push;

@@ -89,7 +89,7 @@ pub fn not_before(x: u32, time: u32) -> Rule
 }
 
 // The point x is at `time` or earlier.
-fn not_after(x: u32, time: u32) -> Rule
+pub fn not_after(x: u32, time: u32) -> Rule
     ensures { λ r. ⌜ r ≡ notAfter x time ⌝ }
 {
     Rule {

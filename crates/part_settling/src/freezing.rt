@@ -2,32 +2,20 @@
 use crate::add_new;
 use part_gaps::earliest;
 use part_lines::Jobs;
+use part_lines::not_after;
 use spec_plain::Job;
-use spec_plain::Rule;
 ghost use mathlib.Core.Path.{_≡_};
 ghost use mathlib.Core.Bool.{cond};
 ghost use mathlib.Core.List.{[], _∷_};
 ghost use Prim.Native.Nat.{suc, _+_, _≤_, _<_};
 ghost use lib.ListN.{length};
 ghost use Rattle.spec_plain.specs.Limits.{side, cellCount};
-ghost use Rattle.spec_plain.specs.Plain.{total, notAfter, range, unsentPoints};
+ghost use Rattle.spec_plain.specs.Plain.{total, range, unsentPoints};
 ghost use Rattle.part_lines.specs.ArrayLists.{jobsOf};
 ghost use Rattle.part_lines.specs.Asked.{Sized};
 ghost use Rattle.spec_stn.specs.Table.{Closed};
 ghost use Rattle.part_gaps.specs.Cells.{tableOf};
 ghost use Rattle.part_settling.specs.Frozen.{frozen};
-
-// The point x is at `time` or earlier.
-fn not_after(x: u32, time: u32) -> Rule
-    ensures { λ r. ⌜ r ≡ notAfter x time ⌝ }
-{
-    Rule {
-        early: x,
-        more: 0,
-        late: 0,
-        slack: time,
-    }
-}
 
 // Point x set to its earliest time. That it is no earlier the table says already, so only the other rule is added.
 fn freeze_point(t: &mut [u32], n: usize, x: u32)
