@@ -47,13 +47,13 @@ function fields(    a, text) {
     return actions text
 }
 
-# the plant file: records, their starts, the trailer
-function plant(changed, shortest, longest,    a, records, starts) {
+# the plant file: records, their starts, the trailer; one action may have other durations, one its count of allocations high byte first
+function plant(changed, shortest, longest, turned,    a, records, starts) {
     for (a = 0; a < actions; a++) {
         starts = starts word(length(records) / 2)
         records = records needs[a] makes[a]
         records = records (a == changed ? word(shortest) word(longest) : takes[a])
-        records = records word(length(uses[a]) / 24) uses[a]
+        records = records (a == turned ? sprintf("%08x", length(uses[a]) / 24) : word(length(uses[a]) / 24)) uses[a]
     }
     return records starts word(length(records) / 2) word(actions) "504c4e54"
 }
@@ -125,9 +125,10 @@ FNR == NR { stop("not a line of a plant") }
     next
 }
 { print "#: " $0 }
-/^plant$/ { print "plant " plant(-1); next }
-/^plant without its last [0-9]+ bytes$/ { hex = plant(-1); print "plant " substr(hex, 1, length(hex) - 2 * $5); next }
-/^plant with .+ taking [0-9]+ to [0-9]+$/ { print "plant " plant(number($3), $5, $7); next }
+/^plant$/ { print "plant " plant(-1, 0, 0, -1); next }
+/^plant without its last [0-9]+ bytes$/ { hex = plant(-1, 0, 0, -1); print "plant " substr(hex, 1, length(hex) - 2 * $5); next }
+/^plant with .+ taking [0-9]+ to [0-9]+$/ { print "plant " plant(number($3), $5, $7, -1); next }
+/^plant with .+ counted high byte first$/ { print "plant " plant(-1, 0, 0, number($3)); next }
 /^write the plant into [0-9]+ bytes$/ { print "write " $5 " " fields(); next }
 /^(plan|fact) sheet / { print $1 " " offer(substr($0, 6)); next }
 /^part / { print "part " number($2); next }

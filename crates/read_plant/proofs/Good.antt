@@ -77,12 +77,11 @@ module _ (s : List ℕ) (marked : Bool) (t : Trailer) (long : 12 ≤ length s) (
   unfolding plantRuling
   on-to-records m l = simp (le-ltb _ _ long, ← em, m, ← et, l)
 
-pub layout-fits : (t : Trailer) (len : ℕ) → badLayout t len ≡ false → t .index + 4 * t .count + 12 ≤ len
+pub layout-right : (t : Trailer) (len : ℕ) → badLayout t len ≡ false → (t .index + 4 * t .count + 12 ≡ len) × (1 ≤ t .count)
 unfolding badLayout
-layout-fits t len e =
+layout-right t len e =
     let count = neither (ltb (t .count) 1) _ e in
-    let sum : t .index + 4 * t .count + 12 ≡ len = eqb-true _ _ (not-false _ (neither (ltb 128 (t .count)) _ (count .1) .1)) in
-    omega arith
+    (eqb-true _ _ (not-false _ (neither (ltb 128 (t .count)) _ (count .1) .1)), ltb-false (t .count) 1 (count .0))
 
 -- for a reader that has the trailer in hand
 module _ (s : List ℕ) (t : Trailer) (g : Good s) (e : t ≡ trailerOf s) (a : ℕ) (h : a < t .count) where

@@ -1,30 +1,31 @@
 -- Laws of one record of a plant file. Assumes nothing.
---   some-bad-..     the allocations one after the other
---   passes-header   a record whose header passes the index passes it
---   Placed          what holds of a record that is in its place (not refusal 3)
---   range-rest      which test decides where all before it pass
---   record-ends     reading such a record in range finds its end;  Whole, whole: what a record that was read is
---   start-none, ruling-is, next-start   the first record's start; one record more: its ruling, and where the next has to start
-use Prim.Native.Nat.{ℕ, zero, suc, _+_, _-_, _*_, _≤_, _<_}
+--   some-bad-..      the allocations one after the other: all are tested together (proofs/Marks)
+--   entry-refused, passes-index, head-refused, ends-short   refusal 3, by what is wrong
+--   Placed, placed   what holds of a record that is in its place (not refusal 3)
+--   action-tests     refusal 4, the two pairs of masks together
+--   Whole, whole     what a record that was read is
+use Prim.Native.Nat.{ℕ, _+_, _*_, _≤_, _<_}
 use native.Mathlib.Omega.{arith}
 use native.Mathlib.Numerals.{add-one}
-use mathlib.Core.Path.{_≡_, refl, sym, ap, subst, _∙_}
+use mathlib.Core.Path.{_≡_, refl, sym, ap₂, _∙_}
 use mathlib.Core.List.{List}
 use mathlib.Core.Bool.{Bool, true, false, cond, not, _&&_, _||_}
 use lib.Dec.{eqb, ltb}
 use lib.ListN.{getD}
-use borrow.Author.Tests.{lt-ltb, eq-eqb, eqb-true, eqb-false, ltb-false, not-false}
+use borrow.Author.Tests.{lt-ltb, le-ltb, eq-eqb, ne-eqb, eqb-true, ltb-false, not-false}
 use Rattle.base_words.specs.Word.{word}
-use Rattle.base_masks.specs.Mask.{share}
+use lib.Bits.{bitOr}
+use Rattle.base_masks.specs.Mask.{share, join}
 use Rattle.base_rulings.specs.declared.Record.{Record}
 use Rattle.base_rulings.specs.declared.Record.the-variants.{Ends, Fails}
 use Rattle.base_rulings.specs.Answer.{cause}
-use Rattle.base_rulings.specs.Order.{refusalOf}
-use Rattle.base_rulings.proofs.RulingLaws.{neither, last-of-or, fails-no}
+use Rattle.base_rulings.proofs.RulingLaws.{neither, fails-no}
 use Rattle.read_plant.specs.declared.Trailer.{Trailer}
-use Rattle.read_plant.specs.Plant.{badHead, badRecord, badAllocation, someBadAllocation, badDuration, badAction, recordAt, recordStart, recordRuling}
-use Rattle.read_plant.specs.Plant.{trailerOf, recordEnd, allocationCount, allocationStart, needsTrue, needsFalse, makesTrue, makesFalse, shortest}
-use Rattle.read_plant.specs.Plant.{longest}
+use Rattle.read_plant.specs.Plant.{badHead, badRecord, badAllocation, someBadAllocation, badDuration, badAction, recordAt, recordEnd}
+use Rattle.read_plant.specs.Plant.{allocationCount, allocationStart, resource, offset, useLength}
+use Rattle.read_plant.specs.Plant.{needsTrue, needsFalse, makesTrue, makesFalse, shortest, longest}
+use Rattle.read_plant.proofs.Head.{bytes-clean}
+use Rattle.read_plant.proofs.Marks.{Marked, badSpan, over, marked-or, four}
 
 -- ---- the allocations
 
@@ -32,37 +33,42 @@ pub some-bad-none : (s : List ℕ) (at : ℕ) → someBadAllocation s at 0 ≡ f
 unfolding someBadAllocation
 some-bad-none s at = refl
 
+-- one allocation more, whose offset and length have these marks
 pub some-bad-next :
-    (s : List ℕ) (at k : ℕ) → someBadAllocation s at k ≡ false → badAllocation s (allocationStart at k) ≡ false → someBadAllocation s at (k + 1) ≡ false
-unfolding someBadAllocation
-some-bad-next s at k e h = rw (add-one k, e) h
-
-pub some-bad-here : (s : List ℕ) (at k n : ℕ) → k < n → badAllocation s (allocationStart at k) ≡ true → someBadAllocation s at n ≡ true
-unfolding someBadAllocation
-some-bad-here s at k zero l h = absurd (omega arith)
-some-bad-here s at k (suc n) l h = go (eqb k n) refl (some-bad-here s at k n)
-  where
-    or-true : (x : Bool) → (x || true) ≡ true
-    or-true true = refl
-    or-true false = refl
-
-    go : (b : Bool) → eqb k n ≡ b → (k < n → badAllocation s (allocationStart at k) ≡ true → someBadAllocation s at n ≡ true)
-        → (someBadAllocation s at n || badAllocation s (allocationStart at n)) ≡ true
-    go true q before =
-        ap (λ (x : Bool). someBadAllocation s at n || x) (subst (λ (j : ℕ). badAllocation s (allocationStart at j) ≡ true) (eqb-true k n q) h)
-        ∙ or-true (someBadAllocation s at n)
-    go false q before = let d : k ≡ n → ⊥ = eqb-false k n q in rw (before (omega (arith, d)) h)
-
-pub some-bad-all : (s : List ℕ) (at k n : ℕ) → someBadAllocation s at k ≡ false → k ≡ n → false ≡ someBadAllocation s at n
-some-bad-all s at k n e q = rw (← q, e)
+    (s : List ℕ) (at k resources marks m : ℕ) → someBadAllocation s at k ≡ (ltb 15 resources || Marked marks)
+    → Marked m ≡ badSpan (offset s (allocationStart at k)) (useLength s (allocationStart at k))
+    → someBadAllocation s at (k + 1) ≡ (ltb 15 (join resources (resource s (allocationStart at k))) || Marked (bitOr marks m))
+unfolding someBadAllocation badAllocation join
+some-bad-next s at k resources marks m e h =
+    rw (add-one k, e, ← h) (four (ltb 15 resources) (Marked marks) (ltb 15 (resource s (allocationStart at k))) (Marked m))
+    ∙ sym (ap₂ _||_ (over 4 15 resources (resource s (allocationStart at k)) refl) (marked-or marks m))
 
 -- ---- the place of a record
 
-pub passes-header :
-    (s : List ℕ) (t : Trailer) (a at e : ℕ) → e ≡ word s (t .index + 4 * a) → e ≡ at → t .index < at + 28 → true ≡ badRecord s t a at
-unfolding badRecord
-passes-header s t a at e p q l =
-    let h : ltb (t .index) (recordEnd s at) ≡ true = lt-ltb (t .index) (recordEnd s at) (omega arith) in simp (← p, eq-eqb _ _ q, h)
+module _ (s : List ℕ) (t : Trailer) (a at : ℕ) where
+  -- an index entry isn't where the record before ended
+  pub entry-refused : (word s (t .index + 4 * a) ≡ at → ⊥) → badRecord s t a at ≡ true
+  unfolding badRecord
+  entry-refused e = simp (ne-eqb _ _ e)
+
+  module _ (e : word s (t .index + 4 * a) ≡ at) where
+    pub passes-index : t .index < recordEnd s at → badRecord s t a at ≡ true
+    unfolding badRecord
+    passes-index l = simp (eq-eqb _ _ e, lt-ltb (t .index) (recordEnd s at) l)
+
+    pub head-refused : badHead s at ≡ true → badRecord s t a at ≡ true
+    unfolding badRecord
+    head-refused h = go (ltb (t .index) (recordEnd s at)) refl
+      where
+        go : (b : Bool) → ltb (t .index) (recordEnd s at) ≡ b → badRecord s t a at ≡ true
+        go true r = simp (eq-eqb _ _ e, r)
+        go false r = simp (eq-eqb _ _ e, r, h)
+
+    -- where the entry, the head and the room are right, only the last record can be wrong, by ending short of the index
+    pub ends-short :
+        badHead s at ≡ false → recordEnd s at ≤ t .index → badRecord s t a at ≡ (eqb (a + 1) (t .count) && ltb (recordEnd s at) (t .index))
+    unfolding badRecord
+    ends-short h l = simp (eq-eqb _ _ e, le-ltb (t .index) (recordEnd s at) l, h)
 
 pub record Placed (s : List ℕ) (t : Trailer) (a at : ℕ) : Type 0 where
   -- its index entry says so
@@ -70,45 +76,44 @@ pub record Placed (s : List ℕ) (t : Trailer) (a at : ℕ) : Type 0 where
   -- it does not pass the index
   pub within : recordEnd s at ≤ t .index
   -- it has at most 4 allocations, and its spare bytes are zero
+  pub head : badHead s at ≡ false
   pub few : allocationCount s at ≤ 4
   pub spare : (getD s (at + 25) 0 ≡ 0) × (getD s (at + 26) 0 ≡ 0) × (getD s (at + 27) 0 ≡ 0)
   -- the last one ends where the index starts
   pub ends : a + 1 ≡ t .count → t .index ≤ recordEnd s at
 
 pub placed : (s : List ℕ) (t : Trailer) (a at : ℕ) → badRecord s t a at ≡ false → Placed s t a at
-unfolding badRecord badHead
+unfolding badRecord
 placed s t a at e =
     let entry = neither (not (eqb (word s (t .index + 4 * a)) at)) _ e in
     let within = neither (ltb (t .index) (recordEnd s at)) _ (entry .1) in
-    let head = neither (badHead s at) (eqb (a + 1) (t .count) && ltb (recordEnd s at) (t .index)) (within .1) in
-    let few = neither (ltb 4 (allocationCount s at)) _ (head .0) in
-    let first = neither (not (eqb (getD s (at + 25) 0) 0)) _ (few .1) in
-    let second = neither (not (eqb (getD s (at + 26) 0) 0)) (not (eqb (getD s (at + 27) 0) 0)) (first .1) in
+    let rest = neither (badHead s at) (eqb (a + 1) (t .count) && ltb (recordEnd s at) (t .index)) (within .1) in
+    let clean = bytes-clean s at (rest .0) in
     record {
       entry = eqb-true _ _ (not-false _ (entry .0));
       within = ltb-false _ _ (within .0);
-      few = ltb-false _ _ (few .0);
-      spare = (eqb-true _ _ (not-false _ (first .0)), eqb-true _ _ (not-false _ (second .0)), eqb-true _ _ (not-false _ (second .1)));
+      head = rest .0;
+      few = clean .few;
+      spare = (clean .first, clean .second, clean .third);
       ends = λ last.
-          ltb-false (recordEnd s at) (t .index) (rw (eq-eqb (a + 1) (t .count) last) at (head .1));
+          ltb-false (recordEnd s at) (t .index) (rw (eq-eqb (a + 1) (t .count) last) at (rest .1));
     }
 
--- ---- its range: the allocations decide where masks and durations are right
+-- ---- its range
 
-pub range-rest :
-    (s : List ℕ) (at n nt nf mt mf short long : ℕ) → nt ≡ needsTrue s at → nf ≡ needsFalse s at → share nt nf ≡ false
-    → mt ≡ makesTrue s at → mf ≡ makesFalse s at → share mt mf ≡ false → short ≡ shortest s at → long ≡ longest s at
-    → badDuration short long ≡ false → n ≡ allocationCount s at → someBadAllocation s at n ≡ badAction s at
+-- the two pairs of masks are tested together
+pub action-tests :
+    (s : List ℕ) (at : ℕ) → badAction s at
+    ≡ ((share (needsTrue s at) (needsFalse s at) || share (makesTrue s at) (makesFalse s at))
+    || (badDuration (shortest s at) (longest s at) || someBadAllocation s at (allocationCount s at)))
 unfolding badAction
-range-rest s at n nt nf mt mf short long a b p d e q g h r m = simp (← a, ← b, ← d, ← e, ← g, ← h, ← m) (last-of-or _ _ _ _ p q r)
+action-tests s at = go (share (needsTrue s at) (needsFalse s at)) _ _
+  where
+    go : (x y z : Bool) → (x || (y || z)) ≡ ((x || y) || z)
+    go true y z = refl
+    go false y z = refl
 
 -- ---- reading it
-
-pub record-ends :
-    (s : List ℕ) (t : Trailer) (a at n : ℕ) → badRecord s t a at ≡ false → badAction s at ≡ false → n ≡ allocationCount s at
-    → Ends (at + 28 + 12 * n) ≡ recordAt s t a at
-unfolding recordAt
-record-ends s t a at n p q e = simp (p, q, ← e)
 
 -- a record that was read is in its place and in range, and ends where it should
 pub record Whole (s : List ℕ) (t : Trailer) (a at end : ℕ) : Type 0 where
@@ -125,17 +130,3 @@ whole s t a at end p = go (badRecord s t a at) refl (badAction s at) refl p
     go true em o eo q = absurd (fails-no (cause 3 a) end q)
     go false em true eo q = absurd (fails-no (cause 4 a) end q)
     go false em false eo q = record { in-place = em; in-range = eo; ends = cc }
-
-pub start-none : (s : List ℕ) → 0 ≡ recordStart s 0
-unfolding recordStart
-start-none s = refl
-
--- one record more: its ruling, and where the next has to start
-module _ (s : List ℕ) (t : Trailer) (a at : ℕ) (x : Record) (et : t ≡ trailerOf s) (ea : at ≡ recordStart s a) (ex : x ≡ recordAt s t a at) where
-  pub ruling-is : refusalOf x ≡ recordRuling s a
-  unfolding recordRuling
-  ruling-is = ap refusalOf {y = recordAt s (trailerOf s) a (recordStart s a)} (ex ∙ rw (← et, ← ea))
-
-  pub next-start : (end : ℕ) → x ≡ Ends end → end ≡ recordStart s (a + 1)
-  unfolding recordStart
-  next-start end e = whole s t a at end (sym ex ∙ e) .ends ∙ rw (add-one a, ← ea)

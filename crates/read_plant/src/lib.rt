@@ -1,5 +1,6 @@
 // The plant file, of any bytes: refusals 1 to 4, and the part that holds an action's allocations. It may use base_words, base_masks and base_rulings.
 use base_masks::overlap;
+use base_masks::union;
 use base_rulings::Cause;
 use base_rulings::Record;
 use base_rulings::Ruling;
@@ -7,11 +8,18 @@ use base_rulings::refusal;
 use base_words::byte_at;
 use base_words::offset_at;
 use base_words::u32_at;
+use std::num::wrapping_add_u64;
 ghost use mathlib.Core.Path.{_≡_};
-ghost use Prim.Native.Nat.{_+_, _*_, _≤_, _<_, _^_};
+ghost use mathlib.Core.Bool.{false, cond, not, _&&_, _||_};
+ghost use Prim.Native.Nat.{_+_, _*_, _/_, _%_, _≤_, _<_, _^_};
 ghost use lib.ListN.{length};
+ghost use lib.Dec.{eqb, ltb};
+ghost use Rattle.base_masks.specs.Mask.{share};
 ghost use Rattle.read_plant.specs.Plant.{isMark, trailerOf, badLayout, badHead, badRecord, badDuration, outOfRange, badAllocation};
-ghost use Rattle.read_plant.specs.Plant.{someBadAllocation, badAction, recordAt, recordStart, recordRuling, plantRuling, allocationsOf, allocationCount};
+ghost use Rattle.read_plant.specs.Plant.{someBadAllocation, badAction, recordStart, recordRuling, plantRuling, allocationsOf, allocationCount};
+ghost use Rattle.read_plant.specs.Plant.{recordEnd, needsTrue, needsFalse, makesTrue, makesFalse};
+ghost use Rattle.base_words.specs.Word.{word};
+ghost use Rattle.base_rulings.specs.Answer.{cause};
 ghost use Rattle.base_rulings.specs.Order.{firstRefusal};
 
 // The last four bytes of a plant file: hex 50 4C 4E 54.
@@ -65,45 +73,20 @@ fn is_bad_layout(t: Trailer, len: usize) -> bool
     t.index + 4 * (t.count as usize) + 12 != len
 }
 
-// Whether the allocation count is above 4 or one of the three spare bytes after it is not zero.
+// Whether the allocation count is above 4 or one of the three spare bytes after it is not zero. The four are read as one word, low byte first.
 fn is_bad_head(s: &[u8], at: usize) -> bool
     requires { ⌜ at + 28 ≤ length (now s) ⌝ }
     ensures { λ r. ⌜ r ≡ badHead (now (s .entry)) at ⌝ }
 {
-    if 4 < s[at + 24] {
-        return true;
-    }
-    if s[at + 25] != 0 {
-        return true;
-    }
-    if s[at + 26] != 0 {
-        return true;
-    }
-    s[at + 27] != 0
+    4 < u32_at(s, at + 24)
 }
 
-// Refusal 3 of an action whose record has to start at `at`.
-fn is_bad_record(s: &[u8], t: Trailer, action: u32, at: usize) -> bool
-    requires { ⌜ (t .index + 4 * t .count + 12 ≤ length (now s)) × (action < t .count) ⌝ }
-    ensures { λ r. ⌜ r ≡ badRecord (now (s .entry)) t action at ⌝ }
+// The allocation count of a record whose spare bytes are zero: the same word.
+fn count_at(s: &[u8], at: usize) -> usize
+    requires { ⌜ (at + 28 ≤ length (now s)) × (badHead (now s) at ≡ false) ⌝ }
+    ensures { λ r. ⌜ (r ≡ allocationCount (now (s .entry)) at) × (r ≤ 4) ⌝ }
 {
-    if offset_at(s, t.index + 4 * (action as usize)) != at {
-        return true;
-    }
-    if t.index < at + 28 {
-        return true;
-    }
-    let end = at + 28 + 12 * byte_at(s, at + 24);
-    if t.index < end {
-        return true;
-    }
-    if is_bad_head(s, at) {
-        return true;
-    }
-    if action + 1 == t.count {
-        return end < t.index;
-    }
-    false
+    offset_at(s, at + 24)
 }
 
 // "1 ≤ shortest ≤ longest ≤ 1,000,000" does not hold.
@@ -135,26 +118,81 @@ pub fn is_out_of_range(resource: u32, offset: u32, len: u32) -> bool
     1000000 < len
 }
 
-fn is_bad_allocation(s: &[u8], at: usize) -> bool
-    requires { ⌜ at + 12 ≤ length (now s) ⌝ }
-    ensures { λ r. ⌜ r ≡ badAllocation (now (s .entry)) at ⌝ }
+// The number of eight bytes, low byte first.
+fn eight(a: u8, b: u8, c: u8, d: u8, e: u8, f: u8, g: u8, h: u8) -> u64
+    ensures { λ r. ⌜ (r % 4294967296 ≡ a + 256 * b + 65536 * c + 16777216 * d) × (r / 4294967296 ≡ e + 256 * f + 65536 * g + 16777216 * h) ⌝ }
 {
-    is_out_of_range(u32_at(s, at), u32_at(s, at + 4), u32_at(s, at + 8))
+    a as u64
+        + 256 * (b as u64)
+        + 65536 * (c as u64)
+        + 16777216 * (d as u64)
+        + 4294967296 * (e as u64)
+        + 1099511627776 * (f as u64)
+        + 281474976710656 * (g as u64)
+        + 72057594037927936 * (h as u64)
 }
 
-// Whether one of the n allocations of the record at `at` is out of range.
+// Offset and length of an allocation in one read: the two words at `at`, the second in the upper half.
+fn span_at(s: &[u8], at: usize) -> u64
+    requires { ⌜ at + 8 ≤ length (now s) ⌝ }
+    ensures { λ r. ⌜ (r % 4294967296 ≡ word (now (s .entry)) at) × (r / 4294967296 ≡ word (now (s .entry)) (at + 4)) ⌝ }
+{
+    eight(
+        s[at],
+        s[at + 1],
+        s[at + 2],
+        s[at + 3],
+        s[at + 4],
+        s[at + 5],
+        s[at + 6],
+        s[at + 7],
+    )
+}
+
+// Marks that say whether offset or length is out of range: the top bits of the two halves of a word. First the length is made 1 less, by 2^64 - 2^32:
+// a length of 0 wraps, so that it is too large as well. What is added then sets a half's top bit from the first number on that is too large: it is
+// 2^31 - 1,000,001 for the offset, and 2^31 - 1,000,000 for the length less 1. A number that has the top bit itself keeps it in the word before.
+// So the marks of several allocations can be collected, and looked at once.
+fn marks_of(span: u64) -> u64
+    ensures { λ r. ⌜ (ltb 9223372036854775807 r || ltb 2147483647 (r % 4294967296))
+        ≡ (ltb 1000000 (span % 4294967296) || (ltb (span / 4294967296) 1 || ltb 1000000 (span / 4294967296))) ⌝ }
+{
+    let less = wrapping_add_u64(span, 18446744069414584320);
+    less | wrapping_add_u64(less, 9219077071705259455)
+}
+
+// Whether the top bit of one of the two halves is set.
+fn has_mark(marks: u64) -> bool
+    ensures { λ r. ⌜ r ≡ ltb 9223372036854775807 marks || ltb 2147483647 (marks % 4294967296) ⌝ }
+{
+    (9223372036854775807 < marks) | (2147483647 < marks % 4294967296)
+}
+
+// Whether one of the n allocations of the record at `at` is out of range. A resource is above 15 if it has a bit above the lowest four, so they are
+// collected too: the loop has no test but its own.
 fn is_some_bad(s: &[u8], at: usize, n: usize) -> bool
     requires { ⌜ at + 28 + 12 * n ≤ length (now s) ⌝ }
     ensures { λ r. ⌜ r ≡ someBadAllocation (now (s .entry)) at n ⌝ }
 {
+    let mut resources = 0u32;
+    let mut marks = 0u64;
     let mut k = 0;
     while k < n {
-        if is_bad_allocation(s, at + 28 + 12 * k) {
-            return true;
-        }
+        let start = at + 28 + 12 * k;
+        resources = union(resources, u32_at(s, start));
+        marks = marks | marks_of(span_at(s, start + 4));
         k += 1;
     }
-    false
+    (15 < resources) | has_mark(marks)
+}
+
+// Whether the record at `at` has a fact twice in its needs or in its makes.
+fn has_fact_twice(s: &[u8], at: usize) -> bool
+    requires { ⌜ at + 16 ≤ length (now s) ⌝ }
+    ensures { λ r. ⌜ r ≡ share (needsTrue (now (s .entry)) at) (needsFalse (now (s .entry)) at)
+        || share (makesTrue (now (s .entry)) at) (makesFalse (now (s .entry)) at) ⌝ }
+{
+    overlap(u32_at(s, at), u32_at(s, at + 4)) | overlap(u32_at(s, at + 8), u32_at(s, at + 12))
 }
 
 // Refusal 4 of the action whose record starts at `at` and has n allocations.
@@ -162,10 +200,7 @@ fn is_bad_action(s: &[u8], at: usize, n: usize) -> bool
     requires { ⌜ (at + 28 + 12 * n ≤ length (now s)) × (n ≡ allocationCount (now s) at) ⌝ }
     ensures { λ r. ⌜ r ≡ badAction (now (s .entry)) at ⌝ }
 {
-    if overlap(u32_at(s, at), u32_at(s, at + 4)) {
-        return true;
-    }
-    if overlap(u32_at(s, at + 8), u32_at(s, at + 12)) {
+    if has_fact_twice(s, at) {
         return true;
     }
     if is_bad_duration(u32_at(s, at + 16), u32_at(s, at + 20)) {
@@ -174,35 +209,73 @@ fn is_bad_action(s: &[u8], at: usize, n: usize) -> bool
     is_some_bad(s, at, n)
 }
 
-// Reads the record of an action, which has to start at `at`: 3, then 4, or where it ends.
-fn read_record(s: &[u8], t: Trailer, action: u32, at: usize) -> Record
-    requires { ⌜ (t .index + 4 * t .count + 12 ≤ length (now s)) × (action < t .count) ⌝ }
-    ensures { λ r. ⌜ r ≡ recordAt (now (s .entry)) t action at ⌝ }
+// Why a record fails that is `bad` (4) or does not end where it has to. Where the last one does not, that is 3, which comes before 4. Where another
+// does not, the index entry of the action after it is wrong, which is 3 of that action.
+fn cause_of(t: Trailer, action: u32, ends: bool, bad: bool) -> Cause
+    requires { ⌜ action < t .count ⌝ }
+    ensures { λ r. ⌜ r ≡ cond (not ends && eqb (action + 1) (t .count)) (cause 3 action) (cond bad (cause 4 action) (cause 3 (action + 1))) ⌝ }
 {
-    if is_bad_record(s, t, action, at) {
-        return Record::Fails(Cause::Action(3, action));
+    let last = action + 1 == t.count;
+    if !ends & last {
+        return Cause::Action(3, action);
     }
-    let n = byte_at(s, at + 24);
-    if is_bad_action(s, at, n) {
-        return Record::Fails(Cause::Action(4, action));
+    if bad {
+        return Cause::Action(4, action);
     }
-    Record::Ends(at + 28 + 12 * n)
+    Cause::Action(3, action + 1)
 }
 
-// Reads the records one after the other. The first that fails ends the reading.
+// Reads the record of an action, which starts at `at`, as its index entry says, and has to end at `next`: 3, then 4, or that it does.
+fn read_record(s: &[u8], t: Trailer, action: u32, at: usize, next: usize) -> Record
+    requires { ⌜ (t .index + 4 * t .count + 12 ≤ length (now s)) × (action < t .count) × (at + 28 ≤ t .index)
+        × (word (now s) (t .index + 4 * action) ≡ at) × (action + 1 ≡ t .count → next ≡ t .index) ⌝ }
+    ensures { λ r. ⌜ r ≡ cond (badRecord (now (s .entry)) t action at) (Record.Fails (cause 3 action))
+        (cond (badAction (now (s .entry)) at) (Record.Fails (cause 4 action))
+        (cond (eqb (recordEnd (now (s .entry)) at) next) (Record.Ends next) (Record.Fails (cause 3 (action + 1))))) ⌝ }
+{
+    if is_bad_head(s, at) {
+        return Record::Fails(Cause::Action(3, action));
+    }
+    let n = count_at(s, at);
+    let end = at + 28 + 12 * n;
+    if t.index < end {
+        return Record::Fails(Cause::Action(3, action));
+    }
+    let ends = end == next;
+    if is_bad_action(s, at, n) {
+        return Record::Fails(cause_of(t, action, ends, true));
+    }
+    if !ends {
+        return Record::Fails(cause_of(t, action, false, false));
+    }
+    Record::Ends(next)
+}
+
+// Reads the records one after the other. The first that fails ends the reading. Where the next record has to start, the index says; behind its
+// last entry the trailer says where the index starts, and there the last record has to end. The reading goes on from what was read there, and not
+// from the sum that it was compared with: so no record has to wait for the one before it.
 fn read_records(s: &[u8], t: Trailer) -> Ruling
-    requires { ⌜ (t ≡ trailerOf (now s)) × (t .index + 4 * t .count + 12 ≤ length (now s)) ⌝ }
+    requires { ⌜ (t ≡ trailerOf (now s)) × (t .index + 4 * t .count + 12 ≡ length (now s)) × (1 ≤ t .count) ⌝ }
     ensures { λ r. ⌜ r ≡ firstRefusal (recordRuling (now (s .entry))) (t .count) ⌝ }
 {
-    let mut at = 0;
+    let mut at = offset_at(s, t.index);
+    if at != 0 {
+        return Ruling::Refused(Cause::Action(3, 0));
+    }
     let mut action = 0;
-    while action < t.count {
-        let answer = read_record(s, t, action, at);
+    let mut entry = t.index;
+    while at + 28 <= t.index {
+        entry += 4;
+        let next = offset_at(s, entry);
+        let answer = read_record(s, t, action, at, next);
         let Record::Ends(end) = answer else {
             return refusal(answer);
         };
         at = end;
         action += 1;
+    }
+    if action < t.count {
+        return Ruling::Refused(Cause::Action(3, action));
     }
     Ruling::Accepted
 }

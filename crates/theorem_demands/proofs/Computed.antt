@@ -98,7 +98,8 @@ plants-computed =
     both refl (both refl (both refl (both refl (both refl (both refl (both refl (both refl (
     both refl (both refl (both refl (both refl (both refl (both refl (both refl (both refl (
     both refl (both refl (both refl (both refl (both refl (both refl (both refl (both refl (
-    both refl (both refl (both refl (both refl tt)))))))))))))))))))))))))))))))))))))))))))))))))))
+    both refl (both refl (both refl (both refl (both refl (both refl (both refl (both refl (
+    both refl tt))))))))))))))))))))))))))))))))))))))))))))))))))))))))
 
 pub parts-computed : AllParts partTable
 unfolding computing allocationsOf

@@ -87,6 +87,9 @@ records =
     -- A2 with an allocation passes the index; so does one that lacks its last byte, by that byte
     ∷ ruled (withByte 92 1 plant) (refused 3 2)
     ∷ ruled (take 95 plant ++ u32s (0 ∷ 40 ∷ 68 ∷ 95 ∷ 3 ∷ []) ++ mark) (refused 3 2)
+    -- so does one that has no room at all, or room for count and spare bytes in part
+    ∷ ruled (take 68 plant ++ u32s (0 ∷ 40 ∷ 68 ∷ 68 ∷ 3 ∷ []) ++ mark) (refused 3 2)
+    ∷ ruled (times 26 0 ++ u32s (0 ∷ 26 ∷ 1 ∷ []) ++ mark) (refused 3 0)
     -- n is 4 at most
     ∷ ruled (fileOf (uses 4 ∷ [])) Accepted
     ∷ ruled (fileOf (uses 5 ∷ [])) (refused 3 0)
@@ -94,6 +97,9 @@ records =
     ∷ ruled (withByte 65 1 plant) (refused 3 1)
     ∷ ruled (withByte 66 1 plant) (refused 3 1)
     ∷ ruled (withByte 95 1 plant) (refused 3 2)
+    -- in the first record too, and its top bit
+    ∷ ruled (withByte 25 1 plant) (refused 3 0)
+    ∷ ruled (withByte 67 128 plant) (refused 3 1)
     -- the last one ends a byte short of the index
     ∷ ruled short (refused 3 1)
     -- 2 comes before 3
@@ -131,6 +137,7 @@ actions =
     -- action by action: A0's 4 comes before A1's 3, also where that is of its index entry or its end; of one action 3 comes before 4
     ∷ ruled (withWord 16 0 (withByte 65 1 plant)) (refused 4 0)
     ∷ ruled (withWord 16 0 (withWord 100 39 plant)) (refused 4 0)
+    ∷ ruled (withWord 56 0 (withWord 104 69 plant)) (refused 4 1)
     ∷ ruled (withWord 16 0 short) (refused 4 0)
     ∷ ruled (withWord 16 0 (withByte 25 1 plant)) (refused 3 0)
     ∷ ruled (withWord 56 0 short) (refused 3 1)

@@ -1,7 +1,7 @@
 -- `check_plant` meets its contract: 1 for each of its reasons, 2, or what the records come to.
 use borrow.Author.Tests.{lt-ltb, not-true, not-false}
 use Rattle.read_plant.specs.Plant.{plantRuling}
-use Rattle.read_plant.proofs.Good.{unmarked, bad-layout, on-to-records, layout-fits}
+use Rattle.read_plant.proofs.Good.{unmarked, bad-layout, on-to-records, layout-right}
 use Prim.Native.Nat.{_-_}
 use mathlib.Core.Path.{sym, _∙_}
 use borrow.Author.Needs.{needs}
@@ -21,7 +21,8 @@ returns-3 c = let at-if2 : tie.Else2 = search in let at-is-marked : tie.After-is
     (sym (c .before .is-bad-layout .ensures) ∙ c .if3 .taken)
 
 read-records-requires : tie.Need-read-records-requires
-read-records-requires c κs = (c .before .before .read-trailer .ensures .0, layout-fits _ _ (sym (c .before .is-bad-layout .ensures) ∙ c .if3 .left))
+read-records-requires c κs = let right = layout-right _ _ (sym (c .before .is-bad-layout .ensures) ∙ c .if3 .left) in
+    (c .before .before .read-trailer .ensures .0, right .0, right .1)
 
 returns-4 : tie.Need-returns-4
 returns-4 c =

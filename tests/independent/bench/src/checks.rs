@@ -1,6 +1,6 @@
-//! The fact check, timed on plants of 8 and of 128 actions, and the reading of such a plant alone. They
-//! have no table, so that there are only two forms: ours and the one in Rust; and another commit's
-//! library, where there is one.
+//! The fact check, timed on plants of 8 and of 128 actions, and the load of a plant alone, which each
+//! fact check and each plan begins with. They have no table, so that there are only two forms: ours and
+//! the one in Rust; and another commit's library, where there is one.
 
 use crate::columns::{columns, microseconds, Column, ROUNDS};
 use crate::libraries::{Library, OtherCommit, ThisTree};
@@ -26,11 +26,15 @@ fn forms() -> Vec<Column<FactCheck>> {
 const NEEDS: Facts = Facts::new(1, 2);
 const MAKES: Facts = Facts::new(1 | 4, 8);
 
-/// So many actions with four allocations each.
-pub fn actions(count: usize) -> Vec<ActionDraft> {
+/// The most allocations that an action has.
+pub const MOST: usize = 4;
+
+/// So many actions with so many allocations each.
+pub fn actions(count: usize, allocation_count: usize) -> Vec<ActionDraft> {
     let last = [15, 1_000_000, 1_000_000];
-    let allocations = [[0, 0, 10], [5, 20, 1_000], [9, 0, 1], last];
-    vec![ActionDraft::new(NEEDS, MAKES, &allocations).lasting(10, 20); count]
+    let allocations: [_; MOST] = [[0, 0, 10], [5, 20, 1_000], [9, 0, 1], last];
+    let allocations = &allocations[..allocation_count];
+    vec![ActionDraft::new(NEEDS, MAKES, allocations).lasting(10, 20); count]
 }
 
 pub struct Check {
@@ -44,7 +48,7 @@ pub struct Check {
 impl Check {
     /// An offer that passes.
     fn new(action_count: usize, step_count: usize) -> Self {
-        let actions = actions(action_count);
+        let actions = actions(action_count, MOST);
         let chain: Vec<usize> = (0..step_count)
             .map(|step| step * 37 % action_count)
             .collect();
@@ -58,12 +62,13 @@ impl Check {
         check.without_other_layout().expect(0)
     }
 
-    /// No offer: the check is refused with 7 and does nothing but read the plant.
-    fn read(action_count: usize) -> Self {
+    /// No offer: the check is refused with 7 and does nothing but load the plant.
+    fn load(action_count: usize, allocation_count: usize) -> Self {
+        let ending = if action_count == 1 { "" } else { "s" };
         let check = Check {
-            call: "read",
-            size: format!("{action_count} actions"),
-            plant: plant_file(&actions(action_count)),
+            call: "load",
+            size: format!("{action_count} action{ending} of {allocation_count}"),
+            plant: plant_file(&actions(action_count, allocation_count)),
             offer: Vec::new(),
             columns: forms(),
         };
@@ -106,7 +111,9 @@ impl Check {
 pub fn time() -> Vec<Check> {
     let sizes = [(8, 1), (8, 3), (8, 8), (128, 1), (128, 3), (128, 8)];
     let mut checks = Vec::from(sizes.map(|(actions, steps)| Check::new(actions, steps)));
-    checks.extend([8, 128].map(Check::read));
+    for actions in [1, 8, 32, 128] {
+        checks.extend([0, 1, MOST].map(|allocations| Check::load(actions, allocations)));
+    }
     for _ in 0..ROUNDS {
         checks.iter_mut().for_each(Check::take_turns);
     }

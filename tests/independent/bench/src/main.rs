@@ -27,10 +27,11 @@ use work::{Work, JOB_POINTS};
 const BLOCKS: usize = 100;
 const CHART_BLOCKS: usize = 40;
 
-const CALLS: [&str; 7] = [
+const CALLS: [&str; 8] = [
     "soundness",
     "plan",
     "plan, due",
+    "plan, 128",
     "send",
     "clock",
     "retire",
@@ -50,6 +51,11 @@ fn case(work: &Work, name: &'static str, jobs: usize) -> Case {
         "soundness" => new(&board, Call::Send { place: u32::MAX }, 18),
         "plan" => new(&work.planned(jobs - 1), work.plan(jobs - 1), 0),
         "plan, due" => new(&work.planned(jobs - 1), work.plan_in_time(jobs - 1), 0),
+        "plan, 128" => new(
+            &work.planned(jobs - 1),
+            work.plan_in_full_plant(jobs - 1),
+            0,
+        ),
         "send" => new(&board, Call::Send { place: last }, 0),
         "clock" => new(&board, Call::Clock { to: 1_000 }, 0),
         "retire" => new(&work.ended(jobs), Call::Retire, 0),

@@ -11,9 +11,14 @@ pub const JOB_POINTS: usize = 4;
 /// A due time that binds: without one a job may end as late as the horizon.
 const DUE: u32 = HORIZON / 2;
 
+/// The most actions that a plant has.
+const MOST_ACTIONS: usize = 128;
+
 pub struct Work {
     actions: Vec<ActionDraft>,
     plant: Vec<u8>,
+    /// The same actions, and as many more as a plant has room for.
+    full_plant: Vec<u8>,
 }
 
 impl Work {
@@ -23,27 +28,38 @@ impl Work {
         };
         let actions = vec![action(0), action(1), action(2)];
         let plant = plant_file(&actions);
-        Work { actions, plant }
+        let all: Vec<ActionDraft> = actions.iter().cycle().take(MOST_ACTIONS).cloned().collect();
+        let full_plant = plant_file(&all);
+        Work {
+            actions,
+            plant,
+            full_plant,
+        }
     }
 
     /// The plan of one more job, at the end of the lines of a board with so many.
     pub fn plan(&self, jobs: usize) -> Call {
-        self.plan_due(jobs, 0)
+        self.plan_due(&self.plant, jobs, 0)
+    }
+
+    /// The same with a plant of as many actions as there may be, each of which is read.
+    pub fn plan_in_full_plant(&self, jobs: usize) -> Call {
+        self.plan_due(&self.full_plant, jobs, 0)
     }
 
     /// The same of a job with a due time, which is one rule more.
     pub fn plan_in_time(&self, jobs: usize) -> Call {
-        self.plan_due(jobs, DUE)
+        self.plan_due(&self.plant, jobs, DUE)
     }
 
-    fn plan_due(&self, jobs: usize, due: u32) -> Call {
+    fn plan_due(&self, plant: &[u8], jobs: usize, due: u32) -> Call {
         let mut offer = OfferDraft::new(Facts::NONE, Facts::NONE, &self.actions, &[0, 1, 2]);
         (offer.batch, offer.due) = (1, due);
         for step in &mut offer.steps {
             step.places[0] = jobs as u32;
         }
         Call::Plan {
-            plant: self.plant.clone(),
+            plant: plant.to_vec(),
             offer: offer.bytes(),
         }
     }

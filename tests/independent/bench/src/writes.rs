@@ -2,7 +2,7 @@
 //! and another commit's library where that has the call. All write into one buffer of just the
 //! file's length.
 
-use crate::checks::actions;
+use crate::checks::{actions, MOST};
 use crate::columns::{columns, microseconds, Column, ROUNDS};
 use crate::libraries::{Library, OtherCommit, ThisTree};
 use crate::ours;
@@ -27,7 +27,7 @@ pub struct Write {
 
 impl Write {
     fn new(action_count: usize) -> Self {
-        let drafts = actions(action_count);
+        let drafts = actions(action_count, MOST);
         let file = plant_file(&drafts);
         let earlier = OtherCommit::CALLS.write_plant;
         let earlier = earlier.map(|_| ours::write_plant::<OtherCommit> as WritePlant);
