@@ -22,7 +22,6 @@ use Rattle.spec_plain.specs.declared.Use.{Use}
 use Rattle.spec_plain.specs.declared.Allocation.{Allocation}
 use Rattle.spec_plain.specs.declared.Rule.{Rule}
 use Rattle.part_lines.specs.declared.rulelist.Maybe.{Maybe}
-use Rattle.part_lines.specs.declared.rulelist.Rules.{Rules}
 use Rattle.part_lines.specs.ArrayLists.{rulesOf, maybeFrom, storing, answered}
 use Rattle.part_lines.specs.Asked.{Room}
 use Rattle.part_lines.specs.Placing.{lineFor, linesWith, AllFit}

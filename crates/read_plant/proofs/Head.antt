@@ -5,12 +5,12 @@
 --   head-count     and where it passes, the word is the count
 use Prim.Native.Nat.{ℕ, _+_, _*_, _≤_, _<_}
 use native.Mathlib.Omega.{arith}
-use mathlib.Core.Path.{_≡_, refl, sym, ap, _∙_}
+use mathlib.Core.Path.{_≡_, refl, sym, _∙_}
 use mathlib.Core.List.{List}
-use mathlib.Core.Bool.{Bool, true, false, not, _||_}
+use mathlib.Core.Bool.{Bool, true, false, not}
 use lib.ListN.{getD}
 use lib.Dec.{eqb, ltb}
-use borrow.Author.Tests.{lt-ltb, le-ltb, eq-eqb, eqb-true, ltb-false, ltb-true, not-false}
+use borrow.Author.Tests.{le-ltb, eq-eqb, eqb-true, ltb-false, ltb-true, not-false}
 use Rattle.base_words.specs.Word.{word}
 use Rattle.base_rulings.proofs.RulingLaws.{neither}
 use Rattle.read_plant.specs.Plant.{badHead, allocationCount}

@@ -1,5 +1,5 @@
 pub mod Head
-pub mod Marks
+pub mod SomeBad
 pub mod Records
 pub mod Reading
 pub mod Good

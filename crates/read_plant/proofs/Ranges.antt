@@ -1,9 +1,7 @@
 -- The numbers of an action that passes 4 are in range. Assumes nothing.
 --   DurationInRange, AllocationInRange   what document 01 asks of a duration, of an allocation
 --   duration-range, allocation-range     it holds of an action that is not refused with 4
-use Prim.Native.Nat.{ℕ, zero, suc, _≤_, _<_}
-use native.Mathlib.Omega.{arith}
-use native.Mathlib.Decide.{ℕ-discrete}
+use Prim.Native.Nat.{ℕ, _≤_, _<_}
 use mathlib.Core.Path.{_≡_}
 use mathlib.Core.List.{List}
 use mathlib.Core.Bool.{false}
@@ -11,6 +9,7 @@ use lib.Dec.{ltb}
 use borrow.Author.Tests.{ltb-false}
 use Rattle.base_masks.specs.Mask.{share}
 use Rattle.base_rulings.proofs.RulingLaws.{neither}
+use Rattle.read_plant.proofs.SomeBad.{none-bad}
 use Rattle.read_plant.specs.Plant.{
   badAction,
   badAllocation,
@@ -69,18 +68,6 @@ module _ (s : List ℕ) (at : ℕ) where
         some = ltb-false (useLength s at) 1 (third .0);
         most = ltb-false 1000000 (useLength s at) (third .1);
       }
-
-none-bad : (s : List ℕ) (at n k : ℕ) → someBadAllocation s at n ≡ false → k < n → badAllocation s (allocationStart at k) ≡ false
-unfolding someBadAllocation
-none-bad s at zero k e h = absurd (omega arith)
-none-bad s at (suc n) k e h =
-    let p = neither (someBadAllocation s at n) (badAllocation s (allocationStart at n)) e in
-    go (ℕ-discrete k n) (p .1) (λ l. none-bad s at n k (p .0) l)
-  where
-    go : Dec (k ≡ n) → badAllocation s (allocationStart at n) ≡ false → (k < n → badAllocation s (allocationStart at k) ≡ false)
-        → badAllocation s (allocationStart at k) ≡ false
-    go (yes q) here before = rw q here
-    go (no q) here before = before (omega arith)
 
 pub allocation-range : (s : List ℕ) (at k : ℕ) → badAction s at ≡ false → k < allocationCount s at → AllocationInRange s (allocationStart at k)
 unfolding badAction

@@ -140,7 +140,6 @@ module _ (s : List ℕ) (t : Trailer) (et : t ≡ trailerOf s) where
         -- but does not end where the next one has to start: so that one is refused, and there is one
         wrong-entry : (recordEnd s at ≡ next → ⊥) → firstRefusal (recordRuling s) (t .count) ≡ refused 3 (a + 1)
         wrong-entry d =
-            let p = placed s t a at in-place in
             let more : a + 1 < t .count = others (eqb (a + 1) (t .count)) refl in
             first-stops (recordRuling s) (a + 1) (t .count) (cause 3 (a + 1)) goes-on
             (out-of-place (a + 1) (recordEnd s at) next-start (entry-refused s t (a + 1) (recordEnd s at) (λ q. d (sym q ∙ there)))) more

@@ -1,47 +1,25 @@
 -- Laws of one record of a plant file. Assumes nothing.
---   some-bad-..      the allocations one after the other: all are tested together (proofs/Marks)
 --   entry-refused, passes-index, head-refused, ends-short   refusal 3, by what is wrong
 --   Placed, placed   what holds of a record that is in its place (not refusal 3)
 --   action-tests     refusal 4, the two pairs of masks together
 --   Whole, whole     what a record that was read is
 use Prim.Native.Nat.{ℕ, _+_, _*_, _≤_, _<_}
-use native.Mathlib.Omega.{arith}
-use native.Mathlib.Numerals.{add-one}
-use mathlib.Core.Path.{_≡_, refl, sym, ap₂, _∙_}
+use mathlib.Core.Path.{_≡_, refl}
 use mathlib.Core.List.{List}
 use mathlib.Core.Bool.{Bool, true, false, cond, not, _&&_, _||_}
 use lib.Dec.{eqb, ltb}
 use lib.ListN.{getD}
 use borrow.Author.Tests.{lt-ltb, le-ltb, eq-eqb, ne-eqb, eqb-true, ltb-false, not-false}
 use Rattle.base_words.specs.Word.{word}
-use lib.Bits.{bitOr}
-use Rattle.base_masks.specs.Mask.{share, join}
-use Rattle.base_rulings.specs.declared.Record.{Record}
+use Rattle.base_masks.specs.Mask.{share}
 use Rattle.base_rulings.specs.declared.Record.the-variants.{Ends, Fails}
 use Rattle.base_rulings.specs.Answer.{cause}
 use Rattle.base_rulings.proofs.RulingLaws.{neither, fails-no}
 use Rattle.read_plant.specs.declared.Trailer.{Trailer}
-use Rattle.read_plant.specs.Plant.{badHead, badRecord, badAllocation, someBadAllocation, badDuration, badAction, recordAt, recordEnd}
-use Rattle.read_plant.specs.Plant.{allocationCount, allocationStart, resource, offset, useLength}
+use Rattle.read_plant.specs.Plant.{badHead, badRecord, someBadAllocation, badDuration, badAction, recordAt, recordEnd}
+use Rattle.read_plant.specs.Plant.{allocationCount}
 use Rattle.read_plant.specs.Plant.{needsTrue, needsFalse, makesTrue, makesFalse, shortest, longest}
 use Rattle.read_plant.proofs.Head.{bytes-clean}
-use Rattle.read_plant.proofs.Marks.{Marked, badSpan, over, marked-or, four}
-
--- ---- the allocations
-
-pub some-bad-none : (s : List ℕ) (at : ℕ) → someBadAllocation s at 0 ≡ false
-unfolding someBadAllocation
-some-bad-none s at = refl
-
--- one allocation more, whose offset and length have these marks
-pub some-bad-next :
-    (s : List ℕ) (at k resources marks m : ℕ) → someBadAllocation s at k ≡ (ltb 15 resources || Marked marks)
-    → Marked m ≡ badSpan (offset s (allocationStart at k)) (useLength s (allocationStart at k))
-    → someBadAllocation s at (k + 1) ≡ (ltb 15 (join resources (resource s (allocationStart at k))) || Marked (bitOr marks m))
-unfolding someBadAllocation badAllocation join
-some-bad-next s at k resources marks m e h =
-    rw (add-one k, e, ← h) (four (ltb 15 resources) (Marked marks) (ltb 15 (resource s (allocationStart at k))) (Marked m))
-    ∙ sym (ap₂ _||_ (over 4 15 resources (resource s (allocationStart at k)) refl) (marked-or marks m))
 
 -- ---- the place of a record
 

@@ -8,10 +8,9 @@ use base_rulings::refusal;
 use base_words::byte_at;
 use base_words::offset_at;
 use base_words::u32_at;
-use std::num::wrapping_add_u64;
 ghost use mathlib.Core.Path.{_≡_};
 ghost use mathlib.Core.Bool.{false, cond, not, _&&_, _||_};
-ghost use Prim.Native.Nat.{_+_, _*_, _/_, _%_, _≤_, _<_, _^_};
+ghost use Prim.Native.Nat.{_+_, _-_, _*_, _/_, _%_, _≤_, _<_, _^_};
 ghost use lib.ListN.{length};
 ghost use lib.Dec.{eqb, ltb};
 ghost use Rattle.base_masks.specs.Mask.{share};
@@ -89,17 +88,28 @@ fn count_at(s: &[u8], at: usize) -> usize
     offset_at(s, at + 24)
 }
 
+// One less, where 0 wraps to the largest number of 32 bits: so one test finds a number that is 0 or too large.
+fn one_less(n: u32) -> u64
+    ensures { λ r. ⌜ r ≡ (n + 4294967295) % 4294967296 ⌝ }
+{
+    (n as u64 + 4294967295) % 4294967296
+}
+
 // "1 ≤ shortest ≤ longest ≤ 1,000,000" does not hold.
 pub fn is_bad_duration(short: u32, long: u32) -> bool
     ensures { λ r. ⌜ r ≡ badDuration short long ⌝ }
 {
-    if short < 1 {
+    if 1000000 < long {
         return true;
     }
-    if long < short {
-        return true;
-    }
-    1000000 < long
+    long as u64 <= one_less(short)
+}
+
+// Whether a length is in range, 1 to 1,000,000.
+fn is_good_length(len: u32) -> bool
+    ensures { λ r. ⌜ not r ≡ ltb len 1 || ltb 1000000 len ⌝ }
+{
+    one_less(len) < 1000000
 }
 
 // Whether one of an allocation's numbers is out of range.
@@ -112,78 +122,29 @@ pub fn is_out_of_range(resource: u32, offset: u32, len: u32) -> bool
     if 1000000 < offset {
         return true;
     }
-    if len < 1 {
-        return true;
-    }
-    1000000 < len
+    !is_good_length(len)
 }
 
-// The number of eight bytes, low byte first.
-fn eight(a: u8, b: u8, c: u8, d: u8, e: u8, f: u8, g: u8, h: u8) -> u64
-    ensures { λ r. ⌜ (r % 4294967296 ≡ a + 256 * b + 65536 * c + 16777216 * d) × (r / 4294967296 ≡ e + 256 * f + 65536 * g + 16777216 * h) ⌝ }
-{
-    a as u64
-        + 256 * (b as u64)
-        + 65536 * (c as u64)
-        + 16777216 * (d as u64)
-        + 4294967296 * (e as u64)
-        + 1099511627776 * (f as u64)
-        + 281474976710656 * (g as u64)
-        + 72057594037927936 * (h as u64)
-}
-
-// Offset and length of an allocation in one read: the two words at `at`, the second in the upper half.
-fn span_at(s: &[u8], at: usize) -> u64
-    requires { ⌜ at + 8 ≤ length (now s) ⌝ }
-    ensures { λ r. ⌜ (r % 4294967296 ≡ word (now (s .entry)) at) × (r / 4294967296 ≡ word (now (s .entry)) (at + 4)) ⌝ }
-{
-    eight(
-        s[at],
-        s[at + 1],
-        s[at + 2],
-        s[at + 3],
-        s[at + 4],
-        s[at + 5],
-        s[at + 6],
-        s[at + 7],
-    )
-}
-
-// Marks that say whether offset or length is out of range: the top bits of the two halves of a word. First the length is made 1 less, by 2^64 - 2^32:
-// a length of 0 wraps, so that it is too large as well. What is added then sets a half's top bit from the first number on that is too large: it is
-// 2^31 - 1,000,001 for the offset, and 2^31 - 1,000,000 for the length less 1. A number that has the top bit itself keeps it in the word before.
-// So the marks of several allocations can be collected, and looked at once.
-fn marks_of(span: u64) -> u64
-    ensures { λ r. ⌜ (ltb 9223372036854775807 r || ltb 2147483647 (r % 4294967296))
-        ≡ (ltb 1000000 (span % 4294967296) || (ltb (span / 4294967296) 1 || ltb 1000000 (span / 4294967296))) ⌝ }
-{
-    let less = wrapping_add_u64(span, 18446744069414584320);
-    less | wrapping_add_u64(less, 9219077071705259455)
-}
-
-// Whether the top bit of one of the two halves is set.
-fn has_mark(marks: u64) -> bool
-    ensures { λ r. ⌜ r ≡ ltb 9223372036854775807 marks || ltb 2147483647 (marks % 4294967296) ⌝ }
-{
-    (9223372036854775807 < marks) | (2147483647 < marks % 4294967296)
-}
-
-// Whether one of the n allocations of the record at `at` is out of range. A resource is above 15 if it has a bit above the lowest four, so they are
-// collected too: the loop has no test but its own.
+// Whether one of the n allocations of the record at `at` is out of range. A resource is above 15 where it has a bit above the lowest four, so that
+// the bits of all are collected and looked at once.
 fn is_some_bad(s: &[u8], at: usize, n: usize) -> bool
     requires { ⌜ at + 28 + 12 * n ≤ length (now s) ⌝ }
     ensures { λ r. ⌜ r ≡ someBadAllocation (now (s .entry)) at n ⌝ }
 {
     let mut resources = 0u32;
-    let mut marks = 0u64;
     let mut k = 0;
     while k < n {
         let start = at + 28 + 12 * k;
         resources = union(resources, u32_at(s, start));
-        marks = marks | marks_of(span_at(s, start + 4));
+        if !is_good_length(u32_at(s, start + 8)) {
+            return true;
+        }
+        if 1000000 < u32_at(s, start + 4) {
+            return true;
+        }
         k += 1;
     }
-    (15 < resources) | has_mark(marks)
+    15 < resources
 }
 
 // Whether the record at `at` has a fact twice in its needs or in its makes.
@@ -251,9 +212,18 @@ fn read_record(s: &[u8], t: Trailer, action: u32, at: usize, next: usize) -> Rec
     Record::Ends(next)
 }
 
+// The action whose index entry stands at `entry`; behind the last entry, how many actions there are.
+fn action_of(t: Trailer, entry: usize) -> u32
+    requires { ⌜ (t .index ≤ entry) × (entry ≤ t .index + 4 * t .count) ⌝ }
+    ensures { λ r. ⌜ r ≡ (entry - t .index) / 4 ⌝ }
+{
+    ((entry - t.index) / 4) as u32
+}
+
 // Reads the records one after the other. The first that fails ends the reading. Where the next record has to start, the index says; behind its
 // last entry the trailer says where the index starts, and there the last record has to end. The reading goes on from what was read there, and not
-// from the sum that it was compared with: so no record has to wait for the one before it.
+// from the sum that it was compared with: so no record has to wait for the one before it. An action's number is taken from the place of its entry,
+// so that nothing else is counted.
 fn read_records(s: &[u8], t: Trailer) -> Ruling
     requires { ⌜ (t ≡ trailerOf (now s)) × (t .index + 4 * t .count + 12 ≡ length (now s)) × (1 ≤ t .count) ⌝ }
     ensures { λ r. ⌜ r ≡ firstRefusal (recordRuling (now (s .entry))) (t .count) ⌝ }
@@ -262,9 +232,9 @@ fn read_records(s: &[u8], t: Trailer) -> Ruling
     if at != 0 {
         return Ruling::Refused(Cause::Action(3, 0));
     }
-    let mut action = 0;
     let mut entry = t.index;
     while at + 28 <= t.index {
+        let action = action_of(t, entry);
         entry += 4;
         let next = offset_at(s, entry);
         let answer = read_record(s, t, action, at, next);
@@ -272,8 +242,8 @@ fn read_records(s: &[u8], t: Trailer) -> Ruling
             return refusal(answer);
         };
         at = end;
-        action += 1;
     }
+    let action = action_of(t, entry);
     if action < t.count {
         return Ruling::Refused(Cause::Action(3, action));
     }

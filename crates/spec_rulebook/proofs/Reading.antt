@@ -2,16 +2,13 @@
 --   due-within, due-past, within-of   whether the due time lies within the horizon is what 23 tests
 --   plan-check-is      within the horizon a plan's tests are the fact check's
 --   checked            where a plan's tests accept, the fact check does, and the due time lies within the horizon
-use mathlib.Core.Path.{_≡_, refl, sym, ap, _∙_}
-use mathlib.Core.Bool.{Bool, true, false, cond}
+use mathlib.Core.Path.{_≡_, sym, _∙_}
 use mathlib.Core.List.{List}
 use Prim.Native.Nat.{ℕ, _≤_, _<_}
 use lib.Dec.{ltb}
 use borrow.Author.Tests.{ltb-false, le-ltb, lt-ltb}
-use Rattle.base_rulings.specs.declared.Ruling.{Ruling}
-use Rattle.base_rulings.specs.declared.Ruling.the-variants.{Accepted, Refused}
+use Rattle.base_rulings.specs.declared.Ruling.the-variants.{Accepted}
 use Rattle.base_rulings.specs.Answer.{refuse}
-use Rattle.base_rulings.specs.Order.{andThen}
 use Rattle.base_rulings.proofs.RulingLaws.{passed, both-passed}
 use Rattle.read_plant.specs.Plant.{plantRuling}
 use Rattle.read_offer.specs.Offer.{dueOf, offerRuling, consistencyRuling, chainRuling, factCheck}

@@ -17,7 +17,7 @@ use Rattle.spec_plain.specs.Rules.{Times, Kept, AllKept}
 use Rattle.spec_plain.proofs.Rules.{kept-to, kept-of, kept-append}
 use Rattle.spec_stn.specs.Table.{Fits}
 use Rattle.spec_stn.proofs.Fits.{fits-to, fits-of}
-use Rattle.part_gaps.specs.Cells.{cell, tableOf}
+use Rattle.part_gaps.specs.Cells.{tableOf}
 use Rattle.spec_rulebook.specs.Book.{Point, completed, Possible}
 use Rattle.part_boardwords.specs.Board.{Board}
 use Rattle.base_lists.specs.All.{All}

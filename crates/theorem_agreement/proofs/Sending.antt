@@ -10,7 +10,7 @@ use native.Mathlib.Omega.{arith}
 use lib.IntN.{pos}
 use Rattle.spec_plain.specs.Plain.{notBefore, notAfter, freeze, sentState}
 use Rattle.spec_plain.specs.Rules.{Times, AllKept, Keeps, KeepsAll}
-use Rattle.spec_plain.proofs.Whole.{up, dn, below-of, whole-eq}
+use Rattle.spec_plain.proofs.Whole.{up, dn, whole-eq}
 use Rattle.spec_plain.proofs.Rules.{keeps-to, keeps-of}
 use Rattle.spec_stn.specs.Table.{soonest}
 use Rattle.part_gaps.specs.Cells.{tableOf}

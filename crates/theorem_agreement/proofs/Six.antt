@@ -2,7 +2,7 @@
 --   Not6 r         the ruling r is not 6
 --   drafted-holds  what holds of acceptance and of 14 to 17 holds of what an offer that was read comes to;  settled-holds: of settling
 --   call-6         a call on a sound board is never refused with 6
-use mathlib.Core.Path.{_≡_, sym, subst}
+use mathlib.Core.Path.{_≡_}
 use mathlib.Core.Bool.{Bool, true, false, cond, not}
 use mathlib.Core.List.{List, []}
 use mathlib.Core.Option.{Option, some, none}
@@ -15,7 +15,7 @@ use Rattle.spec_plain.specs.Plain.{Offer, State, Placed, Draft, Leaving, liveCo
 use Rattle.spec_stn.specs.Table.{entailsAll}
 use Rattle.part_lines.proofs.Placing.{placed-keeps}
 use Rattle.part_gaps.specs.Cells.{tableOf}
-use Rattle.spec_rulebook.specs.Reading.{Reading, good, offerOf, past, planCheck, readingOf}
+use Rattle.spec_rulebook.specs.Reading.{good, offerOf, past, planCheck, readingOf}
 use Rattle.spec_rulebook.specs.Book.{Call, plan, send, clock, retire}
 use Rattle.part_boardwords.specs.Board.{Board}
 use Rattle.part_sound.specs.Sound.{Sound}

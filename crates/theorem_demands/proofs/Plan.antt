@@ -1,7 +1,7 @@
 -- Plan mirrors the board's: new points come with rule (a), and then the draft's rules are tried.
 --   plan-mirrors     a draft
 --   read-mirrors     what a plan call's bytes come to: an early refusal, or an offer
-use mathlib.Core.Path.{_≡_, sym, subst}
+use mathlib.Core.Path.{_≡_}
 use mathlib.Core.List.{List, _++_}
 use Prim.Native.Nat.{ℕ}
 use native.Mathlib.Omega.{arith}

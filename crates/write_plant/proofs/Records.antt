@@ -18,7 +18,7 @@ use Rattle.read_plant.specs.Plant.{allocationCount, allocationStart, badAllocat
 use Rattle.write_plant.specs.Written.{AllocationFields, ActionFields, allocationNumbers, recordOf, joined, startsFrom, allocationAt, actionAt}
 use Rattle.write_plant.specs.Written.{outOf, someOutOfRange, badFields}
 use Rattle.write_plant.specs.Canonical.{sixOf, FittingAction}
-use Rattle.write_plant.proofs.Words.{AllSmall, u32s-length, words-in, bytes-in}
+use Rattle.write_plant.proofs.Words.{u32s-length, words-in, bytes-in}
 
 -- ---- records one after the other
 
