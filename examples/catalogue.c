@@ -83,12 +83,7 @@ int main(void) {
     write_plant(100);
     write_plant(sizeof plant);
 
-    /* A board that is 1000 ms long, on which a job starts 5 ms after the clock or later; sheets need no gap at the tray. */
-    uint32_t settings[SF_SETTINGS] = {0};
-    settings[SF_HORIZON] = 1000;
-    settings[SF_LEAD] = 5;
-    settings[SF_GAP] = 0;
-    if (sf_fresh(board, SF_BOARD_WORDS, settings, SF_SETTINGS) != SF_ACCEPTED)
+    if (sf_fresh(board, SF_BOARD_WORDS, 1000, 5) != SF_ACCEPTED)
         return 1;
     plan();
     if (sf_report(board, SF_BOARD_WORDS, rows, ACTIONS + 1) != SF_ACCEPTED)

@@ -1,5 +1,5 @@
-/* A print line's controller in small: two jobs of a batch are offered to the board, the second of which must leave by a stated time; three offers are
- * refused; the first job runs, and leaves when the tray gap behind it is over.
+/* A print line's controller in small: two jobs are offered to the board, the second of which must leave by a stated time; three offers are refused; the
+ * first job runs and leaves.
  *
  * Build it with the board's library (rt staticlib cabi):
  *     cc -std=c11 -Iinclude examples/controller.c target/staticlib/libcabi.a -o controller
@@ -17,11 +17,11 @@ static const uint32_t plant_words[] = {
     0, 40, 68, 2, 0x544e4c50,        /* where the records begin; where this index begins, how many actions, the mark PLNT */
 };
 
-/* A sheet of batch 7 that is there is to be printed and stacked by the time `due` (0: whenever it is); its print comes behind `before` others in the line
- * of resource 0. */
+/* A sheet that is there is to be printed and stacked by the time `due` (0: whenever it is); its print comes behind `before` others in the line of
+ * resource 0. */
 static size_t offer_words(uint32_t *words, uint32_t known, uint32_t due, uint32_t before) {
     /* batch, known, known not, goal, goal not, number of steps, due time; the steps: print, its place, stack */
-    const uint32_t offer[] = {7, known, 0, 4, 0, 2, due, 0, before, 1};
+    const uint32_t offer[] = {0, known, 0, 4, 0, 2, due, 0, before, 1};
     const size_t n = sizeof offer / sizeof offer[0];
     for (size_t k = 0; k < n; k++)
         words[k] = offer[k];
@@ -72,27 +72,19 @@ static void report(void) {
 int main(void) {
     plant_len = to_bytes(plant, plant_words, sizeof plant_words / sizeof plant_words[0]);
 
-    /* The board is 1000 ms long, a job starts 5 ms after the clock or later, and sheets of a batch come to the tray at least 15 ms apart. */
-    uint32_t settings[SF_SETTINGS] = {0};
-    settings[SF_HORIZON] = 1000;
-    settings[SF_LEAD] = 5;
-    settings[SF_GAP] = 15;
-    told("a fresh board, 1000 ms long", sf_fresh(board, SF_BOARD_WORDS, settings, SF_SETTINGS));
+    told("a fresh board, 1000 ms long", sf_fresh(board, SF_BOARD_WORDS, 1000, 5));
     plan("sheet A", 1, 0, 0);
     plan("a sheet that is not there", 0, 0, 1);
     plan("sheet B, behind A, due at 2000 ms", 1, 2000, 1);
-    /* A is stacked at 20 ms at the earliest; B could be at 30, but must come the tray gap later than A, at 35. */
-    plan("sheet B, behind A, due at 30 ms", 1, 30, 1);
+    plan("sheet B, behind A, due at 25 ms", 1, 25, 1);
     plan("sheet B, behind A, due at 100 ms", 1, 100, 1);
     report();
 
     told("send the oldest job", sf_send(board, SF_BOARD_WORDS, 0));
     report();
 
-    /* Its last point is at 20 ms, and it is over when the tray gap has passed too. */
-    told("clock to 20 ms", sf_clock(board, SF_BOARD_WORDS, 20));
     told("retire it", sf_retire(board, SF_BOARD_WORDS));
-    told("clock to 35 ms", sf_clock(board, SF_BOARD_WORDS, 35));
+    told("clock to 20 ms", sf_clock(board, SF_BOARD_WORDS, 20));
     told("retire it", sf_retire(board, SF_BOARD_WORDS));
     report();
     return 0;

@@ -26,7 +26,7 @@ extern "C" {
 
 /* The version of this interface. The first number changes where a program that was written for it must be changed, the
  * second where a call is added. */
-#define SF_VERSION_MAJOR 3
+#define SF_VERSION_MAJOR 2
 #define SF_VERSION_MINOR 0
 
 /* What a call returns: SF_ACCEPTED, or the first refusal that holds. Behind some stands the value that sf_plan gives in `cause`, and
@@ -39,7 +39,7 @@ enum sf_number {
                                or the last one ends short of the index (action) */
     SF_PLANT_ACTION = 4,    /* an action has a duration, resource, offset or length out of range, or a fact twice in its needs or in its makes
                                (action) */
-    SF_BAD_SETTINGS = 5,    /* the horizon, the lead or the tray gap is out of range */
+    SF_BAD_SETTINGS = 5,    /* the horizon or the lead is out of range */
     SF_UNSOUND = 6,         /* the board is not sound */
     SF_OFFER_HEADER = 7,    /* the offer has under 28 bytes or a step count outside 1 to 8 */
     SF_OFFER_STEP = 8,      /* a step's bytes run past the offer, or the plant has no such action (step) */
@@ -55,8 +55,7 @@ enum sf_number {
     SF_NOT_UNSENT = 18,     /* send names a place with no unsent job */
     SF_BAD_CLOCK = 19,      /* the clock would go back or pass the horizon */
     SF_CLOCK_TOO_LATE = 20, /* no timetable is left after the clock's rules */
-    SF_NOT_OVER = 21,       /* there is no job to retire, or the oldest is unsent, or its last point with the tray gap, or an allocation, ends after
-                               the clock */
+    SF_NOT_OVER = 21,       /* there is no job to retire, or the oldest is unsent, or its last point or an allocation ends after the clock */
     SF_SHORT_LIST = 22,     /* the list is shorter than the rows, or the buffer than the file */
     SF_DUE_TOO_LATE = 23    /* the due time is past the horizon */
 };
@@ -81,14 +80,12 @@ uint32_t sf_write_plant(const uint32_t *actions, size_t actions_len, uint8_t *pl
 
 /* The board, lent as its words. A board comes from sf_fresh, and goes from call to call. Where each word stands:
  *
- *   SF_HORIZON_AT, SF_LEAD_AT, SF_GAP_AT                    the settings: horizon, lead, tray gap
- *   SF_CLOCK_AT, SF_COUNT_AT                                the rest of the head: clock, number of jobs
+ *   SF_HORIZON_AT, SF_LEAD_AT, SF_CLOCK_AT, SF_COUNT_AT     the head: horizon, lead, clock, number of jobs
  *   SF_JOBS_AT + SF_JOB_WORDS * k                           job k, oldest first: SF_JOB_POINTS, SF_JOB_BATCH, SF_JOB_SENT (0 or 1), SF_JOB_DUE
  *                                                           (0: no due time) behind it
  *   SF_LINES_AT + SF_LINE_WORDS * r                         the line of resource r: its number of uses, and from SF_LINE_USES behind it on
  *                                                           SF_USE_WORDS for each: SF_USE_POINT, SF_USE_OFFSET, SF_USE_LENGTH
- *   SF_CELLS_AT + SF_SIDE * i + j                           gap (i, j), how late point j can follow point i, plus SF_BIAS; 0 where one of them
- *                                                           is no live point (point 0 is the origin)
+ *   SF_CELLS_AT + SF_SIDE * i + j                           the gap from point i to point j plus SF_BIAS; 0 where one of them is no live point
  *
  * After a refused call every word of the board is what it was (but for sf_fresh refused with SF_BAD_SETTINGS). While a call runs, the words are its own: no
  * other thread may look at them, since rules are tried on the table where it lies, and it is put back where they fail (17 and 20). `board_len` is a
@@ -103,10 +100,9 @@ uint32_t sf_write_plant(const uint32_t *actions, size_t actions_len, uint8_t *pl
 
 #define SF_HORIZON_AT 0
 #define SF_LEAD_AT 1
-#define SF_GAP_AT 2
-#define SF_CLOCK_AT 3
-#define SF_COUNT_AT 4
-#define SF_HEAD_WORDS 5
+#define SF_CLOCK_AT 2
+#define SF_COUNT_AT 3
+#define SF_HEAD_WORDS 4
 
 #define SF_JOB_POINTS 0
 #define SF_JOB_BATCH 1
@@ -126,27 +122,14 @@ uint32_t sf_write_plant(const uint32_t *actions, size_t actions_len, uint8_t *pl
 #define SF_CELLS_AT (SF_LINES_AT + SF_LINE_WORDS * SF_RESOURCES)
 #define SF_BOARD_WORDS (SF_CELLS_AT + SF_SIDE * SF_SIDE)
 
-/* A fresh board with these settings, its clock at 0 and no job on it; what the words held before does not matter. `settings` has SF_SETTINGS words, all
- * in ms:
- *
- *   SF_HORIZON   1 to 100,000,000: no point of a job is later
- *   SF_LEAD      0 to 1,000,000: a job starts at the clock plus the lead or later
- *   SF_GAP       0 to 10,000, the tray gap: a job's last point is at least so much later than that of the job before it in its batch, and a job, of a
- *                batch or not, retires no sooner than so much after its last point
- *
- * Refusals, in this order: 6 (`board_len` is not SF_BOARD_WORDS), 5 (a setting is out of range, or `settings_len` is not SF_SETTINGS). Refused with 6 it
- * writes nothing, and with 5 it leaves the board of zeros, which is not sound. A board's own words can't be lent as its settings, since lists may not
- * overlap. Stack: 3.1 KB. */
-#define SF_HORIZON 0
-#define SF_LEAD 1
-#define SF_GAP 2
-#define SF_SETTINGS 3
-uint32_t sf_fresh(uint32_t *board, size_t board_len, const uint32_t *settings, size_t settings_len);
+/* A fresh board with this horizon (1 to 100,000,000 ms) and lead (0 to 1,000,000 ms), its clock at 0 and no job on it; what the words held before does
+ * not matter. Refusals, in this order: 6 (another number of words), 5. Refused with 5 it leaves the board of zeros, which is not sound.
+ * Stack: 3.1 KB. */
+uint32_t sf_fresh(uint32_t *board, size_t board_len, uint32_t horizon, uint32_t lead);
 
-/* Plans an offer: the board gets the offer's job, its newest. Where the offer has a due time, the job's last point is no later. Where it has a batch
- * and jobs on the board have the same, the job's last point is at least the tray gap later than that of the newest of them. Refusals, in this order:
+/* Plans an offer: the board gets the offer's job, its newest. Where the offer has a due time, the job's last point is no later. Refusals, in this order:
  * 1 to 4 (the plant file), 6, 7 to 10, 23, 11 to 17. Where `cause` has a word, its first word becomes the action, step, fact or allocation that the
- * refusal speaks of, and 0 where there is none. Stack: 22 KB. */
+ * refusal speaks of, and 0 where there is none. Stack: 21 KB. */
 uint32_t sf_plan(uint32_t *board, size_t board_len, const uint8_t *plant, size_t plant_len, const uint8_t *offer, size_t offer_len,
                  uint32_t *cause, size_t cause_len);
 
@@ -157,8 +140,7 @@ uint32_t sf_send(uint32_t *board, size_t board_len, uint32_t place);
 /* Moves the clock to c: every unsent job starts at c + lead or later. Refusals: 6, 19, 20. Stack: 26 KB. */
 uint32_t sf_clock(uint32_t *board, size_t board_len, uint32_t c);
 
-/* Drops the oldest job, which is sent and over: its last point plus the tray gap is at or before the clock, and so is the end of each of its uses, without
- * the gap. (Where one of these is past the horizon, the job stays, since the clock can't get there.) Refusals: 6, 21. Stack: 3.3 KB. */
+/* Drops the oldest job, which is sent and over. Refusals: 6, 21. Stack: 3.3 KB. */
 uint32_t sf_retire(uint32_t *board, size_t board_len);
 
 /* A point's row: its job's place in the job list (0 is the oldest), its own place in the job (0 first), its earliest and its latest time in ms. */

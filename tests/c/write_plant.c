@@ -217,8 +217,6 @@ static void planned(void) {
     j.len = 0;
     word(&j, 0), word(&j, 1), word(&j, 0), word(&j, 4), word(&j, 0), word(&j, 2), word(&j, 0), word(&j, 0), word(&j, 0), word(&j, 1);
     static uint32_t board[SF_BOARD_WORDS];
-    uint32_t settings[SF_SETTINGS] = {0};
-    settings[SF_HORIZON] = 1000, settings[SF_LEAD] = 5;
     for (size_t at = 0; at < 8; at++) {
         uint8_t block[136];
         struct sf_row rows[3];
@@ -226,7 +224,7 @@ static void planned(void) {
         expect("write anywhere", sf_write_plant(f.at, f.len, block + at, 120, NULL, 0), SF_ACCEPTED);
         memcpy(buffer, block, sizeof block);
         expect("  bytes around it", untouched(0, at) && untouched(at + 120, sizeof block), 1);
-        expect("  fresh", sf_fresh(board, SF_BOARD_WORDS, settings, SF_SETTINGS), SF_ACCEPTED);
+        expect("  fresh", sf_fresh(board, SF_BOARD_WORDS, 1000, 5), SF_ACCEPTED);
         expect("  plan J on it", sf_plan(board, SF_BOARD_WORDS, block + at, 120, j.at, j.len, NULL, 0), SF_ACCEPTED);
         expect("  report", sf_report(board, SF_BOARD_WORDS, rows, 3), SF_ACCEPTED);
         expect("  the start, earliest", rows[0].earliest, 5);

@@ -2,7 +2,7 @@
 // programs make, and its answer as a number. It may use the calls, write_plant and part_boardwords, and decides nothing.
 ghost use Rattle.std.specs.Prelude.{◌≡◌, length, set};
 ghost use Rattle.base_rulings.specs.Answer.{number_of, value_of};
-ghost use Rattle.part_boardwords.specs.Words.{lent_settings, lent_board};
+ghost use Rattle.part_boardwords.specs.Words.{lent_board};
 ghost use Rattle.call_board.specs.Calls.{planned, sent, clocked, retired};
 ghost use Rattle.call_board.specs.InWords.{words_after, fresh_ruling, fresh_words};
 ghost use Rattle.call_report.specs.Rows.{reported_in};
@@ -15,7 +15,7 @@ use call_planning::plan;
 use call_report::{Row, report};
 use call_retiring::retire;
 use call_sending::send;
-use part_boardwords::lent_settings;
+use spec_plain::Settings;
 use write_plant::write_plant;
 
 // The value is written into the first word, where there is one.
@@ -36,13 +36,13 @@ fn write_length(written: &mut [u32], n: u32)
     }
 }
 
-// A fresh board with these settings; or 5, for another number of them too, and a board of zeros.
+// A fresh board with this horizon and lead; or 5, and a board of zeros.
 #[unsafe(no_mangle)]
-pub extern "C" fn sf_fresh(board: &mut [u32], settings: &[u32]) -> u32
-    ensures number { result ≡ number_of (fresh_ruling (lent_settings settings.now) board.old) }
-    ensures words { board.new ≡ fresh_words (lent_settings settings.now) board.old }
+pub extern "C" fn sf_fresh(board: &mut [u32], horizon: u32, lead: u32) -> u32
+    ensures number { result ≡ number_of (fresh_ruling (record { horizon = horizon; lead = lead }) board.old) }
+    ensures words { board.new ≡ fresh_words (record { horizon = horizon; lead = lead }) board.old }
 {
-    number(fresh(board, lent_settings(settings)))
+    number(fresh(board, Settings { horizon, lead }))
 }
 
 // The first of refusals 1 to 4, 6, 7 to 10, 23 and 11 to 17, or the board with the offer's job. The value of the refusal goes into `cause`.

@@ -95,9 +95,8 @@ module _ (s : Settings) (good : bad_settings s ≡ false) where
       let sized = settings_to s (not-false _ good) in
       record {
         marked = refl;
-        horizon = sized.horizon;
-        lead = sized.lead;
-        tray_gap_lem = sized.tray_gap_lem;
+        horizon = sized.0;
+        lead = sized.1;
         clock = omega arith;
         jobs = omega arith;
         sizes = tt;

@@ -4,16 +4,16 @@
 --   stored_length     clearing and storing leave as many words
 --   other_number      words that are not as many as a board has: 6, and they stay
 --   refused_words     settings out of range: 5, and the words of the zero board;  accepted_words: those of the fresh board
-use Prim.Native.Nat.{ℕ, zero, suc, ◌+◌, ◌≤◌, ◌<◌}
+use Prim.Native.Nat.{ℕ, zero, suc, ◌+◌, ◌<◌}
 use mathlib.Core.Path.{◌≡◌, refl, sym, ◌∙◌, ap}
 use mathlib.Core.Bool.{true, false, cond}
 use mathlib.Core.List.{List}
 use native.Mathlib.Omega.{arith}
 use native.Mathlib.Decide.{ℕ_discrete, dec_lt}
-use lib.Dec.{ltb, eqb}
+use lib.Dec.{eqb}
 use lib.ListN.{length, get_or, set, replicate, length-set}
 use lib.Seq.{get_or-set_same, get_or-set_other}
-use borrow.Author.Tests.{lt-ltb, le-ltb, eq-eqb, ne_eqb}
+use borrow.Author.Tests.{eq-eqb, ne_eqb}
 use Rattle.base_rulings.specs.declared.Ruling.TheVariants.{Accepted}
 use Rattle.base_rulings.specs.Answer.{refuse}
 use Rattle.part_lines.specs.Padded.{padded}
@@ -22,15 +22,13 @@ use Rattle.spec_rulebook.specs.Book.{empty_lines, fresh}
 use Rattle.base_lists.specs.Loops.{build, all_below, rewritten}
 use Rattle.base_lists.proofs.Build.{build_same, build_back, build_length, build_at, build_past}
 use Rattle.base_lists.proofs.Rewritten.{rewritten_length, rewritten_whole}
-use Rattle.part_boardwords.specs.Layout.{settings_size, cells_at, board_size, mark_at}
+use Rattle.part_boardwords.specs.Layout.{horizon_at, lead_at, cells_at, board_size, mark_at}
 use Rattle.part_boardwords.specs.Words.{Words, zeros, all_marked, is_marked, cell_at, cells_read, frame_read, board_read}
-use Rattle.part_boardwords.specs.Codec.{settings_words, words_of, overwritten}
+use Rattle.part_boardwords.specs.Codec.{words_of}
 use Rattle.part_boardwords.proofs.Inverse.{all_read}
-use Rattle.part_boardwords.proofs.Overwritten.{overwritten_length, overwritten_from}
-use Rattle.part_boardwords.proofs.Written.{overwritten_at}
 use Rattle.spec_plain.specs.Limits.{cell_count}
 use Rattle.spec_plain.specs.declared.Settings.{Settings}
-use Rattle.call_board.specs.Boards.{board_of, bad_settings, settings_ruling, fresh_cells, zero_board, fresh_board, fresh_ruled}
+use Rattle.call_board.specs.Boards.{board_of, bad_settings, fresh_cells, zero_board, fresh_board, fresh_ruled}
 use Rattle.call_board.specs.InWords.{fresh_ruling, fresh_words}
 use Rattle.call_board.proofs.FreshSound.{fresh_origin, fresh_elsewhere}
 
@@ -44,20 +42,24 @@ zero_words = all_read zeros (λ k h. omega arith)
 
 -- word k of a fresh board
 unfoldable pub started : Settings → Words
-started s k = cond (ltb k settings_size) (get_or (settings_words s) k 0) (cond (eqb k cells_at) bias 0)
+started s k = cond (eqb k horizon_at) s.horizon (cond (eqb k lead_at) s.lead (cond (eqb k cells_at) bias 0))
 
 module _ (s : Settings) where
-  pub at_settings : (k : ℕ) → k < settings_size → started s k ≡ get_or (settings_words s) k 0
+  pub at-horizon : started s horizon_at ≡ s.horizon
   unfolding started
-  at_settings k h = rw (lt-ltb k settings_size h) refl
+  at-horizon = refl
+
+  pub at-lead : started s lead_at ≡ s.lead
+  unfolding started
+  at-lead = refl
 
   pub at_cells : started s cells_at ≡ bias
   unfolding started
   at_cells = refl
 
-  pub elsewhere : (k : ℕ) → settings_size ≤ k → (k ≡ cells_at → ⊥) → started s k ≡ 0
+  pub elsewhere : (k : ℕ) → (k ≡ horizon_at → ⊥) → (k ≡ lead_at → ⊥) → (k ≡ cells_at → ⊥) → started s k ≡ 0
   unfolding started
-  elsewhere k h c = rw (le-ltb k settings_size h, ne_eqb k cells_at c) refl
+  elsewhere k h l c = rw (ne_eqb k horizon_at h, ne_eqb k lead_at l, ne_eqb k cells_at c)
 
   fresh_frame : (l : List ℕ) → frame_read (started s) l ≡ board_of (fresh s).state l
   unfolding started fresh empty_lines build padded all_marked all_below is_marked
@@ -65,7 +67,7 @@ module _ (s : Settings) where
 
   cell_started : (k : ℕ) → started s (cells_at + k) ≡ get_or fresh_cells k 0
   cell_started zero = at_cells ∙ sym fresh_origin
-  cell_started (suc k) = elsewhere (cells_at + suc k) (omega arith) (λ e. omega arith) ∙ sym (fresh_elsewhere (suc k) (omega arith))
+  cell_started (suc k) = elsewhere (cells_at + suc k) (λ e. omega arith) (λ e. omega arith) (λ e. omega arith) ∙ sym (fresh_elsewhere (suc k) (omega arith))
 
   cells_started : cells_read (started s) ≡ fresh_cells
   unfolding fresh_cells
@@ -80,16 +82,15 @@ module _ (s : Settings) where
   pub fresh_words_lem : words_of (fresh_board s) ≡ build (started s) board_size
   fresh_words_lem =
       ap words_of (sym fresh_read)
-      ∙ all_read (started s) (λ k h. omega (arith, elsewhere (mark_at k) (omega arith) (λ e. omega arith)))
+      ∙ all_read (started s) (λ k h. omega (arith, elsewhere (mark_at k) (λ e. omega arith) (λ e. omega arith) (λ e. omega arith)))
 
 -- ---- fresh, case by case
 
--- words cleared and the settings written: as many as before
-pub stored_length :
-    (w x y : List ℕ) (s : Settings) → x ≡ rewritten zeros w 0 board_size → y ≡ overwritten x 0 (settings_words s) → length y ≡ length w
-stored_length w x y s cleared headed =
-    ap length headed
-    ∙ overwritten_length x 0 (settings_words s)
+-- words cleared and two of them stored: as many as before
+pub stored_length : (w x : List ℕ) (s : Settings) → x ≡ rewritten zeros w 0 board_size → length (set (set x horizon_at s.horizon) lead_at s.lead) ≡ length w
+stored_length w x s cleared =
+    length-set (set x horizon_at s.horizon) lead_at s.lead
+    ∙ length-set x horizon_at s.horizon
     ∙ ap length cleared
     ∙ rewritten_length zeros w 0 board_size
 
@@ -104,8 +105,15 @@ module _ (s : Settings) (w : List ℕ) where
     all_zero = cleared ∙ rewritten_whole zeros w board_size size
 
     pub refused_words : bad_settings s ≡ true → (refuse 5 ≡ fresh_ruling s w) × (x ≡ fresh_words s w)
-    unfolding fresh_ruling fresh_words fresh_ruled settings_ruling
+    unfolding fresh_ruling fresh_words fresh_ruled
     refused_words bad = let e = eq-eqb (length w) board_size size in (rw (e, bad), rw (e, bad) (all_zero ∙ sym zero_words))
+
+    -- the list that is left where the settings and the origin's gap are stored
+    abbrev headed : List ℕ
+    headed = set (set x horizon_at s.horizon) lead_at s.lead
+
+    abbrev stored : List ℕ
+    stored = set headed cells_at bias
 
     zero_at : (k : ℕ) → get_or x k 0 ≡ 0
     zero_at k = ap (λ (l : List ℕ). get_or l k 0) all_zero ∙ go (dec_lt k board_size)
@@ -117,37 +125,38 @@ module _ (s : Settings) (w : List ℕ) where
     long : length x ≡ board_size
     long = ap length all_zero ∙ build_length zeros board_size
 
-    -- the settings written, and then the origin's gap with itself
-    module _ (y : List ℕ) (headed : y ≡ overwritten x 0 (settings_words s)) where
-      abbrev stored : List ℕ
-      stored = set y cells_at bias
+    stored_at : (k : ℕ) → Dec (k ≡ horizon_at) → Dec (k ≡ lead_at) → Dec (k ≡ cells_at) → get_or stored k 0 ≡ started s k
+    stored_at k h l (yes e) =
+        ap (λ (i : ℕ). get_or stored i 0) e
+        ∙ get_or-set_same headed cells_at bias 0
+        (omega (arith, long, length-set (set x horizon_at s.horizon) lead_at s.lead, length-set x horizon_at s.horizon))
+        ∙ sym (ap (started s) e ∙ at_cells s)
+    stored_at k h (yes e) (no c) =
+        get_or-set_other headed cells_at k bias 0 c
+        ∙ ap (λ (i : ℕ). get_or headed i 0) e
+        ∙ get_or-set_same (set x horizon_at s.horizon) lead_at s.lead 0 (omega (arith, long, length-set x horizon_at s.horizon))
+        ∙ sym (ap (started s) e ∙ at-lead s)
+    stored_at k (yes e) (no l) (no c) =
+        get_or-set_other headed cells_at k bias 0 c
+        ∙ get_or-set_other (set x horizon_at s.horizon) lead_at k s.lead 0 l
+        ∙ ap (λ (i : ℕ). get_or (set x horizon_at s.horizon) i 0) e
+        ∙ get_or-set_same x horizon_at s.horizon 0 (omega (arith, long))
+        ∙ sym (ap (started s) e ∙ at-horizon s)
+    stored_at k (no h) (no l) (no c) =
+        get_or-set_other headed cells_at k bias 0 c
+        ∙ get_or-set_other (set x horizon_at s.horizon) lead_at k s.lead 0 l
+        ∙ get_or-set_other x horizon_at k s.horizon 0 h
+        ∙ zero_at k
+        ∙ sym (elsewhere s k h l c)
 
-      headed_long : length y ≡ board_size
-      headed_long = ap length headed ∙ overwritten_length x 0 (settings_words s) ∙ long
+    stored-long : length stored ≡ board_size
+    stored-long = length-set headed cells_at bias ∙ length-set (set x horizon_at s.horizon) lead_at s.lead ∙ length-set x horizon_at s.horizon ∙ long
 
-      headed_at : (k : ℕ) → Dec (k < settings_size) → (k ≡ cells_at → ⊥) → get_or y k 0 ≡ started s k
-      headed_at k (yes h) c =
-          ap (λ (l : List ℕ). get_or l k 0) headed
-          ∙ overwritten_at x 0 (settings_words s) k k (omega arith) h (omega (arith, long))
-          ∙ sym (at_settings s k h)
-      headed_at k (no h) c =
-          ap (λ (l : List ℕ). get_or l k 0) headed
-          ∙ overwritten_from x 0 (settings_words s) k (omega arith)
-          ∙ zero_at k
-          ∙ sym (elsewhere s k (omega arith) c)
-
-      stored_at : (k : ℕ) → Dec (k ≡ cells_at) → get_or stored k 0 ≡ started s k
-      stored_at k (yes e) =
-          ap (λ (i : ℕ). get_or stored i 0) e
-          ∙ get_or-set_same y cells_at bias 0 (omega (arith, headed_long))
-          ∙ sym (ap (started s) e ∙ at_cells s)
-      stored_at k (no c) = get_or-set_other y cells_at k bias 0 c ∙ headed_at k (dec_lt k settings_size) c
-
-      pub accepted_words : bad_settings s ≡ false → (Accepted ≡ fresh_ruling s w) × (stored ≡ fresh_words s w)
-      unfolding fresh_ruling fresh_words fresh_ruled settings_ruling
-      accepted_words good =
-          let e = eq-eqb (length w) board_size size in
-          let is : stored ≡ build (started s) board_size =
-          sym (build_back stored board_size 0 (length-set y cells_at bias ∙ headed_long))
-          ∙ build_same (λ k. get_or stored k 0) (started s) board_size (λ k h. stored_at k (ℕ_discrete k cells_at)) in
-          (rw (e, good), rw (e, good) (is ∙ sym (fresh_words_lem s)))
+    pub accepted_words : bad_settings s ≡ false → (Accepted ≡ fresh_ruling s w) × (stored ≡ fresh_words s w)
+    unfolding fresh_ruling fresh_words fresh_ruled
+    accepted_words good =
+        let e = eq-eqb (length w) board_size size in
+        let is : stored ≡ build (started s) board_size =
+        sym (build_back stored board_size 0 stored-long)
+        ∙ build_same (λ k. get_or stored k 0) (started s) board_size (λ k h. stored_at k (ℕ_discrete k horizon_at) (ℕ_discrete k lead_at) (ℕ_discrete k cells_at)) in
+        (rw (e, good), rw (e, good) (is ∙ sym (fresh_words_lem s)))

@@ -4,7 +4,7 @@ ghost use Rattle.call_board.specs.Boards.{bad_settings};
 ghost use Rattle.call_board.specs.InWords.{fresh_ruling, fresh_words};
 
 use base_rulings::{Cause, Ruling};
-use part_boardwords::{clear, layout, write_settings};
+use part_boardwords::{clear, layout};
 use part_gaps::BIAS;
 use part_sound::are_settings_sized;
 use spec_plain::Settings;
@@ -28,7 +28,8 @@ pub fn fresh(w: &mut [u32], s: Settings) -> Ruling
     if is_bad(s) {
         return Ruling::Refused(Cause::Plain(5));
     }
-    write_settings(w, s);
+    w[layout::HORIZON_AT] = s.horizon;
+    w[layout::LEAD_AT] = s.lead;
     w[layout::CELLS_AT] = BIAS;
     Ruling::Accepted
 }

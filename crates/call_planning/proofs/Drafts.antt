@@ -156,8 +156,7 @@ DraftJoins s o (Draft.go next m rs) = Joins s o next m rs
 
 module _
     (s : State) (o : Offer) (jobs : All (SizedJob s.settings.horizon) s.jobs) (lines : All (All (Fits (live_count s))) s.lines)
-    (top : s.settings.horizon ≤ 100000000) (clock : s.clock + s.settings.lead ≤ 101000000)
-    (tray : tray_gap s.settings ≤ 10000) (offer : SizedOffer s.settings.horizon o)
+    (top : s.settings.horizon ≤ 100000000) (clock : s.clock + s.settings.lead ≤ 101000000) (offer : SizedOffer s.settings.horizon o)
   where
     abbrev n : ℕ
     n = live_count s + new_points o
@@ -179,7 +178,7 @@ module _
         let gap = tray_gap s.settings in
         let by_batch = batch_rules gap (job_batch (job_from o)) last s.jobs in
         let by-due = due_rules o.due last in
-        let behind = batch_one s.settings.horizon n gap (job_batch (job_from o)) last s.jobs (omega (arith, tray)) (omega arith) (omega arith) jobs in
+        let behind = batch_one s.settings.horizon n gap (job_batch (job_from o)) last s.jobs (omega arith) (omega arith) (omega arith) jobs in
         let on-time = due_one n o.due last (omega arith) (omega arith) (omega (arith, offer.due, top)) in
         let ending = by_batch ++ by-due in
         let lasting = durations (live_count s) o.steps in

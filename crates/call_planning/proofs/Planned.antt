@@ -78,7 +78,7 @@ module _ (b : Board) (o : Offer) (r : Drafted) (e : DraftedAs r (drafted (state_
   going s size sized h =
       let h1 = s.horizon.1 in
       go (drafted (state_of b) o) refl e
-      (drafted_joins (state_of b) o s.sizes (unfold live_count in fitting b s size) h1 (omega (arith, h1, s.clock, s.lead)) s.tray_gap_lem sized)
+      (drafted_joins (state_of b) o s.sizes (unfold live_count in fitting b s size) h1 (omega (arith, h1, s.clock, s.lead)) sized)
     where
       go : (q : Draft) → drafted (state_of b) o ≡ q → DraftedAs r q → DraftJoins (state_of b) o q → Going b o r
       go (Draft.stop c) is f j = absurd (refused_no c (sym f ∙ h))

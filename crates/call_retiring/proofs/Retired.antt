@@ -88,13 +88,12 @@ module _ (b : Board) where
       unfolding total
       few = let all = ap total q in omega (arith, all)
 
-      pub in_reach : (c : ℕ) → c ≤ b.settings.horizon → length b.gaps ≡ cell_count → InReach b.settings b.gaps c 1 j.points
+      pub in_reach : (c : ℕ) → c ≤ b.settings.horizon → length b.gaps ≡ cell_count → InReach b.gaps c 1 j.points
       in_reach c by size =
           record {
             size = size;
             points = omega (arith, few, s.points);
             clock = omega (arith, s.horizon.1);
-            tray_gap_lem = s.tray_gap_lem;
             bounded = λ x h. (closed b s).bounded 0 x (omega arith) (omega (arith, few));
           }
 
@@ -146,7 +145,7 @@ module _ (w : List ℕ) (len : length w ≡ board_size) (e : sound (board_in w) 
 
   -- what the test and the dropping of the oldest job's points ask
   pub leaving_words :
-      InReach (settings_read (word_in w)) (cells_read (word_in w)) (word_in w clock_at) 1 j.points × (1 ≤ j.points) × Lined (lines_read (word_in w))
+      InReach (cells_read (word_in w)) (word_in w clock_at) 1 j.points × (1 ≤ j.points) × Lined (lines_read (word_in w))
       × (1 + j.points ≤ suc (total (jobs_of (held_jobs (word_in w)))))
   leaving_words =
       let s = is_sound w e in (

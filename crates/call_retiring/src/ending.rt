@@ -18,7 +18,7 @@ use spec_plain::{Settings, Use, limits};
 
 // A use of a point that leaves ends by the clock; nothing is asked of one that stays.
 fn use_ends(t: &[u32], settings: Settings, clock: u32, f: u32, m: u32, u: Use) -> bool
-    requires { InReach settings t.now clock f m × Short u }
+    requires { InReach t.now clock f m × Short u }
     ensures { result ≡ entails_all (table_of t.now) (ends_by settings clock f m (u ∷ [])) }
 {
     if !goes(f, m, u.point) {
@@ -38,7 +38,7 @@ fn line_ends(
     w: &[u32],
     at: usize,
 ) -> bool
-    requires { InReach settings t.now clock f m × (line_end at ≤ length w.now) × (word_in w.now at ≤ most_uses)
+    requires { InReach t.now clock f m × (line_end at ≤ length w.now) × (word_in w.now at ≤ most_uses)
         × AllShort (line_of (line_read (word_in w.now) at)) }
     ensures { result ≡ entails_all (table_of t.now) (ends_by settings clock f m (line_of (line_read (word_in w.now) at))) }
 {
@@ -53,7 +53,7 @@ fn line_ends(
 
 // Each use of all lines of a board, read where they lie in its words.
 fn lines_end(t: &[u32], settings: Settings, clock: u32, f: u32, m: u32, w: &[u32]) -> bool
-    requires { InReach settings t.now clock f m × (cells_at ≤ length w.now) × Lined (lines_read (word_in w.now)) }
+    requires { InReach t.now clock f m × (cells_at ≤ length w.now) × Lined (lines_read (word_in w.now)) }
     ensures { result ≡ entails_all (table_of t.now) (all_end_by settings clock f m (lines_of (lines_read (word_in w.now)))) }
 {
     let mut ok = true;
@@ -65,7 +65,7 @@ fn lines_end(t: &[u32], settings: Settings, clock: u32, f: u32, m: u32, w: &[u32
 
 // The last point of those that leave, with the tray gap, and each use of them end by the clock.
 pub fn are_over(t: &[u32], settings: Settings, clock: u32, f: u32, m: u32, w: &[u32]) -> bool
-    requires { InReach settings t.now clock f m × (1 ≤ m) × (cells_at ≤ length w.now) × Lined (lines_read (word_in w.now)) }
+    requires { InReach t.now clock f m × (1 ≤ m) × (cells_at ≤ length w.now) × Lined (lines_read (word_in w.now)) }
     ensures { result ≡ entails_all (table_of t.now) (over_by (f + m - 1) (tray_gap settings) clock
         ∷ all_end_by settings clock f m (lines_of (lines_read (word_in w.now)))) }
 {

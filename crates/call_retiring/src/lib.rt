@@ -27,7 +27,7 @@ use part_sound::is_sound;
 // The m points from 1 on are over by the clock, with the tray gap.
 fn is_over(w: &[u32], m: u32) -> bool
     requires w_len { length w.now ≡ board_size }
-    requires in_reach { InReach (settings_read (word_in w.now)) (cells_read (word_in w.now)) (word_in w.now clock_at) 1 m × (1 ≤ m) × Lined (lines_read (word_in w.now)) }
+    requires in_reach { InReach (cells_read (word_in w.now)) (word_in w.now clock_at) 1 m × (1 ≤ m) × Lined (lines_read (word_in w.now)) }
     ensures { result ≡
         entails_all (table_of (cells_read (word_in w.now)))
         (over_by (1 + m - 1) (tray_gap (settings_read (word_in w.now))) (word_in w.now clock_at)

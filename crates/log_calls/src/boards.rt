@@ -15,8 +15,9 @@ use call_clocking::clock;
 use call_planning::plan;
 use call_retiring::retire;
 use call_sending::send;
-use log_text::{Decoded, Number, Read, decode_hex, least, read_number, read_numbers};
-use part_boardwords::{BOARD_BYTES, BOARD_WORDS, clear, layout, lent_settings};
+use log_text::{Decoded, Number, decode_hex, find, least, read_number};
+use part_boardwords::{BOARD_BYTES, BOARD_WORDS, clear};
+use spec_plain::Settings;
 
 // The board that a log begins with, as a refused fresh leaves it: all its words are 0.
 pub fn clear_board(board: &mut [u32; BOARD_WORDS]) {
@@ -53,13 +54,17 @@ fn rule_on_jobs(
     }
 }
 
-// A fresh board, from its settings. A refused one leaves the board of zeros.
+// A fresh board, from two numbers. A refused one leaves the board of zeros.
 fn fresh_answer(words: &[u8], board: &mut [u32; BOARD_WORDS]) -> Answer {
-    let mut settings = [0u32; layout::SETTINGS_SIZE];
-    let Read::At(_) = read_numbers(words, 0, &mut settings) else {
+    let end = find(words, b' ');
+    let Number::Value(horizon) = read_number(&words[0..end]) else {
         return Answer::Wrong(Fault::BadNumber);
     };
-    Answer::Ruling(fresh(board, lent_settings(&settings)))
+    let from = least(end + 1, words.len());
+    let Number::Value(lead) = read_number(&words[from..]) else {
+        return Answer::Wrong(Fault::BadNumber);
+    };
+    Answer::Ruling(fresh(board, Settings { horizon, lead }))
 }
 
 // An offer has at most as many bytes as a plant file.

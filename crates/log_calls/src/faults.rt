@@ -70,7 +70,7 @@ fn put_why(out: &mut [u8], at: usize, fault: Fault) -> usize {
         Fault::BoardBytes => put(
             out,
             at,
-            b"the bytes are not as many as a board has: use 23384, four for each of its 5846 words",
+            b"the bytes are not as many as a board has: use 23380, four for each of its 5845 words",
         ),
         Fault::ManyRows => put(out, at, b"the rows are too many: use at most 64"),
         Fault::RowsWritten => put(

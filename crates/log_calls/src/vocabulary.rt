@@ -2,7 +2,6 @@
 ghost use Rattle.log_calls.specs.Vocabulary.{Says};
 
 use check::same;
-use part_boardwords::layout;
 
 #[derive(Drop)]
 pub enum Word {
@@ -83,7 +82,7 @@ pub fn arguments(word: Word, blanks: usize) -> usize {
         Word::Retire => 0,
         Word::Table => 0,
         Word::State => 0,
-        Word::Fresh => layout::SETTINGS_SIZE,
+        Word::Fresh => 2,
         Word::Write => two_or_more(blanks),
         Word::Unknown => blanks,
         _ => 1,

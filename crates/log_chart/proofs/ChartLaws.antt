@@ -3,7 +3,6 @@
 --   glyph_digit, glyph_letter        the mark of a job
 --   mark_over, mark_left             a use that covers a column, and one that does not
 --   mark_next, mark_end              the mark of a column, use by use
---   sheet_other, sheet_here          a job of another batch, and one that takes the tray;  tray_next, tray_done: the mark of a column, job by job
 --   first_next, last_next            the least and the largest time, point by point
 --   end_next, end_done, lines_next, lines_done   the last end, use by use and line by line
 --   width_fits, width_next, width_done   the search for the width;  width_sized: each width is small and not 0
@@ -15,14 +14,14 @@
 use Prim.Native.Nat.{ℕ, suc, ◌+◌, ◌-◌, ◌*◌, ◌/◌, ◌≤◌, ◌<◌, min, max}
 use mathlib.Core.Path.{◌≡◌, refl, sym, ◌∙◌, ap, subst}
 use mathlib.Core.Bool.{Bool, true, false, cond, ◌&&◌}
-use mathlib.Core.List.{List, [], ◌∷◌, ◌++◌}
+use mathlib.Core.List.{List, [], ◌∷◌}
 use native.Mathlib.Omega.{arith}
 use native.Mathlib.Nat.{mul-le-mul}
 use native.Mathlib.Numerals.{add-one}
 use lib.Dec.{leb, ltb}
 use lib.ListN.{length, get_or, drop, drop_of_length-le}
 use lib.Seq.{drop-cons, get_or-take}
-use borrow.Author.Tests.{le-leb, lt-leb, lt-ltb, le-ltb, leb-true, eq-eqb, ne_eqb}
+use borrow.Author.Tests.{le-leb, lt-leb, lt-ltb, le-ltb, leb-true}
 use Rattle.spec_plain.specs.Limits.{most_jobs, most_points, resources, most_uses}
 use Rattle.spec_plain.specs.declared.Job.{Job}
 use Rattle.spec_plain.specs.declared.Use.{Use}
@@ -41,7 +40,7 @@ use Rattle.part_boardwords.proofs.Boards.{held_jobs_lem, held_job}
 use Rattle.part_sound.specs.Sound.{Sound, SizedJob, SizedUse, points_of}
 use Rattle.log_chart.specs.declared.scale.Scale.{Scale}
 use Rattle.log_chart.specs.Chart.{OnTable, AllOnTable, begin_of, column_of, covers, end_time, first_fit, first_time, fits, glyph_of, job_of}
-use Rattle.log_chart.specs.Chart.{last_end, last_time, left_of, lines_end, glyph_over, right_of, scale_of, scaled, tray_use, tray_uses, trays_from, width_of, widths}
+use Rattle.log_chart.specs.Chart.{last_end, last_time, left_of, lines_end, glyph_over, right_of, scale_of, scaled, width_of, widths}
 
 -- ---- whose a point is
 
@@ -90,41 +89,6 @@ module _ (c : Table) (js : List Job) (us : List Use) (p q z k m : ℕ) (run : gl
   pub mark_end : drop k us ≡ [] → m ≡ glyph_over c js us p q z
   unfolding glyph_over
   mark_end over = sym (ap (λ (r : List Use). glyph_over c js r p q m) over) ∙ run
-
--- ---- trays
-
-module _ (c : Table) (js : List Job) (p q : ℕ) where
-  over_append : (us vs : List Use) (z : ℕ) → glyph_over c js (us ++ vs) p q z ≡ glyph_over c js vs p q (glyph_over c js us p q z)
-  unfolding glyph_over
-  over_append [] vs z = refl
-  over_append (u ∷ us) vs z = over_append us vs (cond (covers c p q u) (glyph_of (job_of js u.point)) z)
-
-  module _ (b g x : ℕ) (j : Job) (m : ℕ) where
-    pub sheet_other : (j.batch ≡ b → ⊥) → m ≡ glyph_over c js (tray_uses b g x j) p q m
-    unfolding glyph_over
-    sheet_other h = rw (ne_eqb j.batch b h) refl
-
-    pub sheet_here :
-        (u : Use) (mark : ℕ) → j.batch ≡ b → u ≡ tray_use (x - 1) g → mark ≡ cond (covers c p q u) (glyph_of (job_of js u.point)) m
-        → mark ≡ glyph_over c js (tray_uses b g x j) p q m
-    unfolding glyph_over
-    sheet_here u mark h is e = rw (eq-eqb j.batch b h) (e ∙ ap (λ (v : Use). cond (covers c p q v) (glyph_of (job_of js v.point)) m) is)
-
-  module _ (b g z x k m : ℕ) (run : glyph_over c js (trays_from b g x (drop k js)) p q m ≡ glyph_over c js (trays_from b g 1 js) p q z) where
-    pub tray_next :
-        (j : Job) (mark : ℕ) → drop k js ≡ j ∷ drop (k + 1) js → mark ≡ glyph_over c js (tray_uses b g (x + j.points) j) p q m
-        → glyph_over c js (trays_from b g (x + j.points) (drop (k + 1) js)) p q mark ≡ glyph_over c js (trays_from b g 1 js) p q z
-    unfolding trays_from
-    tray_next j mark next e =
-        let rest = trays_from b g (x + j.points) (drop (k + 1) js) in
-        ap (glyph_over c js rest p q) e
-        ∙ sym (over_append (tray_uses b g (x + j.points) j) rest m)
-        ∙ sym (ap (λ (r : List Job). glyph_over c js (trays_from b g x r) p q m) next)
-        ∙ run
-
-    pub tray_done : drop k js ≡ [] → m ≡ glyph_over c js (trays_from b g 1 js) p q z
-    unfolding glyph_over trays_from
-    tray_done over = sym (ap (λ (r : List Job). glyph_over c js (trays_from b g x r) p q m) over) ∙ run
 
 -- ---- the span
 

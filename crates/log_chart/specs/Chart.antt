@@ -4,9 +4,6 @@
 --   covers c p q u      the use u is under way at some time from p on and before q
 --   glyph_of k           the mark of the job at place k
 --   glyph_over c js us p q z  the mark of the last of the uses us that covers the times from p on and before q; z where none does
---   tray_use x g         the tray taken by a sheet, whose last point is x, for the gap g
---   trays_from b g x js  so by each job of the batch b, in a row of their own;  tray_uses b g x j: by one. x is the first point of the list's first job, or
---                       the point behind those of the one
 --   first_time, last_time, last_end, lines_end   the least and the largest of a time t and of the earliest times of points or ends of uses
 --   left_of, right_of     the span of the picture, from the clock and the table
 --   widths, width_of     the round widths of a column, and the narrowest with which the picture has at most 80 columns
@@ -15,11 +12,10 @@
 -- What the code asks of its arguments, so that no index is out of range and no sum wraps; soundness shows it:
 --   OnTable w at        the line whose first word is number `at` has at most 32 uses, each of a point of the table;  AllOnTable w: every line
 --   Scaled s            a scale's numbers are small, and a column has a width
-use Rattle.std.specs.Prelude.{ℕ, zero, suc, ◌+◌, ◌-◌, ◌*◌, ◌/◌, ◌%◌, ◌≤◌, ◌<◌, min, max, Bool, cond, ◌&&◌, List, [], ◌∷◌, ◌++◌, leb, ltb, eqb}
+use Rattle.std.specs.Prelude.{ℕ, zero, suc, ◌+◌, ◌-◌, ◌*◌, ◌/◌, ◌%◌, ◌≤◌, ◌<◌, min, max, Bool, cond, ◌&&◌, List, [], ◌∷◌, leb, ltb}
 use Rattle.spec_plain.specs.Limits.{most_points, resources, most_uses}
 use Rattle.spec_plain.specs.declared.Job.{Job}
 use Rattle.spec_plain.specs.declared.Use.{Use}
-use Rattle.spec_plain.specs.Plain.{job_batch}
 use Rattle.part_lines.specs.declared.Line.{Line}
 use Rattle.part_lines.specs.ArrayLists.{line_of}
 use Rattle.spec_stn.specs.Table.{Table, earliest}
@@ -51,18 +47,6 @@ glyph_of k = cond (ltb k 10) (48 + k) (87 + k)
 unfoldable pub glyph_over : Table → List Job → List Use → ℕ → ℕ → ℕ → ℕ
 glyph_over c js [] p q z = z
 glyph_over c js (u ∷ us) p q z = glyph_over c js us p q (cond (covers c p q u) (glyph_of (job_of js u.point)) z)
-
--- ---- trays
-
-abbrev pub tray_use : ℕ → ℕ → Use
-tray_use x g = record { point = x; offset = 0; length = g }
-
-abbrev pub tray_uses : ℕ → ℕ → ℕ → Job → List Use
-tray_uses b g x j = cond (eqb (job_batch j) b) (tray_use (x - 1) g ∷ []) []
-
-unfoldable pub trays_from : ℕ → ℕ → ℕ → List Job → List Use
-trays_from b g x [] = []
-trays_from b g x (j ∷ js) = tray_uses b g (x + j.points) j ++ trays_from b g (x + j.points) js
 
 -- ---- the span
 

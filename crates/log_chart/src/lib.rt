@@ -1,10 +1,8 @@
 // A picture of a board in text: a row for each resource that is in use, time from left to right, each use drawn at its earliest time with
-// its job's mark, the clock, a row for each batch where there is a tray gap, and for each job its windows, due time and batch. The picture is at most
-// 93 columns wide, a job's row at most 102.
+// its job's mark, the clock, and for each job its windows, due time and batch. The picture is at most 93 columns wide, a job's row at most 102.
 // The board is lent as its words. It may use log_text, and of the board what it shows.
 mod rows; // the axis, the clock and the rows of resources
 mod scale; // which times the picture shows, and how wide a column is
-mod trays; // the rows of trays, where there is a tray gap
 mod uses; // when a use is under way, and whose it is
 mod windows; // the jobs' windows
 
@@ -16,12 +14,10 @@ ghost use Rattle.part_sound.specs.Sound.{Sound, sound};
 
 use crate::rows::put_picture;
 use crate::scale::{Scale, scale_of};
-use crate::trays::put_trays;
 use crate::windows::put_windows;
 use log_text::{put, put_number};
-use part_boardwords::{BOARD_WORDS, layout, settings_in};
+use part_boardwords::{BOARD_WORDS, layout};
 use part_jobwords::points_in;
-use part_lines::tray_gap;
 use part_sound::is_sound;
 
 // Puts the chart of a board. The times of a board that is not sound mean nothing: it has none.
@@ -60,31 +56,17 @@ fn put_shown(out: &mut [u8], at: usize, w: &[u32], t: &[u32], n: usize) -> usize
 {
     let clock = w[layout::CLOCK_AT];
     let scale = scale_of(t, n, w, clock);
-    let head = put_head(out, at, w, scale);
+    let head = put_head(out, at, clock, w[layout::COUNT_AT], scale);
     let drawn = put_picture(out, head, t, w, scale);
-    let trays = put_trays(out, drawn, t, w, scale);
-    put_windows(out, trays, t, w)
+    put_windows(out, drawn, t, w)
 }
 
-// Puts `chart: clock CLOCK ms, N jobs, one column is WIDTH ms`, and `, tray gap GAP ms` where there is one.
-fn put_head(out: &mut [u8], at: usize, w: &[u32], scale: Scale) -> usize
-    requires { length w.now ≡ board_size }
-{
-    let time = put_time(out, at, w[layout::CLOCK_AT]);
-    let count = put_count(out, time, w[layout::COUNT_AT]);
+// Puts `chart: clock CLOCK ms, N jobs, one column is WIDTH ms`.
+fn put_head(out: &mut [u8], at: usize, clock: u32, jobs: u32, scale: Scale) -> usize {
+    let time = put_time(out, at, clock);
+    let count = put_count(out, time, jobs);
     let width = put_number(out, count, scale.column);
-    let unit = put(out, width, b" ms");
-    let gap = put_gap(out, unit, tray_gap(settings_in(w)));
-    put(out, gap, b"\n")
-}
-
-fn put_gap(out: &mut [u8], at: usize, gap: u32) -> usize {
-    if gap == 0 {
-        return at;
-    }
-    let name = put(out, at, b", tray gap ");
-    let number = put_number(out, name, gap as u64);
-    put(out, number, b" ms")
+    put(out, width, b" ms\n")
 }
 
 fn put_count(out: &mut [u8], at: usize, jobs: u32) -> usize {

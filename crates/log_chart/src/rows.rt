@@ -11,7 +11,7 @@ use log_text::{least, put, put_number};
 use part_boardwords::{layout, line_start};
 use spec_plain::limits;
 
-pub const NAMES: usize = 13;
+const NAMES: usize = 13;
 
 // ---- places
 
@@ -32,7 +32,7 @@ pub fn pad(out: &mut [u8], at: usize, from: usize, to: usize) -> usize {
 }
 
 // When a column begins.
-pub fn time_of(scale: Scale, column: usize) -> u64
+fn time_of(scale: Scale, column: usize) -> u64
     requires { Scaled scale × (column ≤ 80) }
     ensures { (result ≡ scale.begin + column * scale.column) × (result ≤ 4454967295) }
 {
@@ -167,7 +167,7 @@ fn put_marks(out: &mut [u8], at: usize, t: &[u32], w: &[u32], line: usize, scale
 }
 
 // How many columns begin before a time.
-pub fn columns_to(scale: Scale, time: u64) -> usize
+fn columns_to(scale: Scale, time: u64) -> usize
     requires { Scaled scale }
     ensures { result ≤ 80 }
 {

@@ -33,7 +33,7 @@ fn smaller(a: u64, b: u64) -> u64
     if a < b { a } else { b }
 }
 
-pub fn larger(a: u64, b: u64) -> u64
+fn larger(a: u64, b: u64) -> u64
     ensures { result ≡ max a b }
 {
     if a < b { b } else { a }

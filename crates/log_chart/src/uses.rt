@@ -68,7 +68,7 @@ fn is_covering(t: &[u32], u: Use, from: u64, to: u64) -> bool
 }
 
 // The mark of the use where it covers the times, and else the mark that stands there.
-pub fn mark_over(t: &[u32], w: &[u32], u: Use, from: u64, to: u64, mark: u8) -> u8
+fn mark_over(t: &[u32], w: &[u32], u: Use, from: u64, to: u64, mark: u8) -> u8
     requires { (length t.now ≡ cell_count) × (u.point ≤ most_points) × (cells_at ≤ length w.now) × (word_in w.now count_at ≤ most_jobs) }
     ensures { result ≡ cond (covers (table_of t.now) from to u) (glyph_of (job_of (jobs_of (held_jobs (word_in w.now))) u.point)) mark }
 {

@@ -57,11 +57,7 @@ fn put_of_plant(out: &mut [u8], at: usize, n: u32) -> usize {
 
 fn put_of_board(out: &mut [u8], at: usize, n: u32) -> usize {
     match n {
-        5 => put(
-            out,
-            at,
-            b"the horizon, the lead or the tray gap is out of range",
-        ),
+        5 => put(out, at, b"the horizon or the lead is out of range"),
         6 => put(out, at, b"the board is not sound"),
         _ => put_unknown(out, at),
     }
@@ -112,7 +108,7 @@ fn put_of_call(out: &mut [u8], at: usize, n: u32) -> usize {
         21 => put(
             out,
             at,
-            b"there is no job to retire, or the oldest is unsent, or its last point with the tray gap, or an allocation, ends after the clock",
+            b"there is no job to retire, or the oldest is unsent, or its last point or an allocation ends after the clock",
         ),
         22 => put(
             out,

@@ -4,13 +4,11 @@
 // function has a `requires`: a place past the end of a buffer counts as its end, and bytes for which there is no room
 // are left out.
 mod hex;
-mod line;
 mod number;
 mod output;
 mod search;
 
 pub use hex::{Decoded, decode_hex, put_hex};
-pub use line::{Read, after, number_at, read_numbers};
 pub use number::{Number, read_number};
 pub use output::{put, put_number};
 pub use search::{count, find, least};

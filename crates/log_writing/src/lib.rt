@@ -1,13 +1,13 @@
 // The line of a log that writes a plant file: its numbers, the call, and the text of its answer. A buffer that holds a pattern is lent to the call: where a
 // byte past the file does not hold it any more, or any byte after a refusal, the call wrote what it should not.
 // It may use write_plant, base_rulings and log_text.
-mod reading; // the actions of a line
+mod reading; // the numbers of a line
 
 ghost use Rattle.std.specs.Prelude.{◌≡◌, ◌≤◌, ◌*◌, length};
 
 use base_rulings::Ruling;
-use log_text::{Number, Read, after, least, number_at, put, put_hex, put_number};
-use reading::read_list;
+use log_text::{Number, least, put, put_hex, put_number};
+use reading::{Read, after, number_at, read_list};
 use write_plant::{ACTION_WORDS, write_plant};
 
 // The longest buffer that a log can write into.

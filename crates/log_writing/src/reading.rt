@@ -1,21 +1,61 @@
-// The actions of a line, number by number.
+// The numbers of a line, word by word. A place past the end of the line is that of a word which is missing.
 ghost use Rattle.std.specs.Prelude.{◌≡◌, ◌+◌, ◌*◌, ◌≤◌, length};
 
-use log_text::{Read, read_numbers};
+use log_text::{Number, find, least, read_number};
 use write_plant::ACTION_WORDS;
+
+// What reading numbers finds: the place of the next word, or what is wrong.
+#[derive(Drop)]
+pub enum Read {
+    At(usize),
+    Missing,
+    BadNumber,
+}
+
+// The number of the word at `at`.
+pub fn number_at(words: &[u8], at: usize) -> Number {
+    let from = least(at, words.len());
+    let rest = &words[from..];
+    let end = find(rest, b' ');
+    read_number(&rest[0..end])
+}
+
+// The place of the word behind the one at `at`.
+pub fn after(words: &[u8], at: usize) -> usize {
+    let from = least(at, words.len());
+    from + find(&words[from..], b' ') + 1
+}
+
+// Puts n numbers, those of the words from `at` on, into the words of w from `from` on.
+fn read_numbers(words: &[u8], at: usize, w: &mut [u32], from: usize, n: usize) -> Read
+    requires { from + n ≤ length w.old }
+{
+    let mut to = at;
+    let mut k = 0;
+    while k < n {
+        if words.len() < to {
+            return Read::Missing;
+        }
+        let Number::Value(v) = number_at(words, to) else {
+            return Read::BadNumber;
+        };
+        w[from + k] = v;
+        to = after(words, to);
+        k += 1;
+    }
+    Read::At(to)
+}
 
 // An action: seven numbers, and three for each of its first four allocations.
 fn read_action(words: &[u8], at: usize, w: &mut [u32], from: usize) -> Read
     requires { from + 19 ≤ length w.old }
 {
-    let behind = from + 7;
-    let seven = read_numbers(words, at, &mut w[from..behind]);
+    let seven = read_numbers(words, at, w, from, 7);
     let Read::At(next) = seven else {
         return seven;
     };
     let n = at_most_four(w[from + 6]);
-    let end = behind + 3 * n;
-    read_numbers(words, next, &mut w[behind..end])
+    read_numbers(words, next, w, from + 7, 3 * n)
 }
 
 fn at_most_four(n: u32) -> usize

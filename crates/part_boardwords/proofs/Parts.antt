@@ -7,23 +7,20 @@
 --   job_word, use_word, head_word    word i of a job, of a use, of a head that was read;  head-written: a head that was written
 --   job_sent                         words that differ in the mark alone, which is 1
 --   head_other                       word i of a head, but for clock and count, is that of the settings
---   settings_lent, no_settings       words that are as many as settings have, and others
 use Prim.Native.Nat.{ℕ, zero, suc, ◌+◌, ◌<◌, ◌≤◌}
 use mathlib.Core.Path.{◌≡◌, refl, ◌∙◌, ap}
 use mathlib.Core.Bool.{Bool, true, false}
-use mathlib.Core.List.{List}
-use lib.ListN.{length, get_or}
+use lib.ListN.{get_or}
 use lib.Dec.{eqb}
 use native.Mathlib.Omega.{arith}
-use borrow.Author.Tests.{eq-eqb, ne_eqb}
 use Rattle.spec_plain.specs.declared.Settings.{Settings}
 use Rattle.spec_plain.specs.declared.Job.{Job}
 use Rattle.spec_plain.specs.declared.Use.{Use}
 use Rattle.spec_plain.specs.Plain.{sent_job, no_use}
 use Rattle.part_lines.specs.ArrayLists.{no_job}
 use Rattle.part_boardwords.specs.Board.{Board}
-use Rattle.part_boardwords.specs.Layout.{horizon_at, lead_at, gap_at, settings_size, clock_at, count_at, head_size, batch_in, sent_in, due_in, job_size, offset_in, length_in, use_size, job_start}
-use Rattle.part_boardwords.specs.Words.{Words, word_in, zeros, settings_read, lent_settings, job_read, job_at, use_read, board_read}
+use Rattle.part_boardwords.specs.Layout.{horizon_at, lead_at, clock_at, count_at, head_size, batch_in, sent_in, due_in, job_size, offset_in, length_in, use_size, job_start}
+use Rattle.part_boardwords.specs.Words.{Words, word_in, zeros, settings_read, job_read, job_at, use_read, board_read}
 use Rattle.part_boardwords.specs.Codec.{mark_of, job_words, use_words, head_words}
 
 -- ---- marks
@@ -55,7 +52,7 @@ module _ (v w : Words) (a b : ℕ) where
   use_by same = rw (first (same 0 (omega arith)), same offset_in (omega arith), same length_in (omega arith)) refl
 
 pub settings_by : (v w : Words) → ((i : ℕ) → i < clock_at → v i ≡ w i) → settings_read v ≡ settings_read w
-settings_by v w same = rw (same horizon_at (omega arith), same lead_at (omega arith), same gap_at (omega arith)) refl
+settings_by v w same = rw (same horizon_at (omega arith), same lead_at (omega arith)) refl
 
 pub job_same : (v w : Words) (m : ℕ) → ((k : ℕ) → job_start m ≤ k → k < job_start m + job_size → v k ≡ w k) → job_at v m ≡ job_at w m
 job_same v w m same = job_by v w (job_start m) (job_start m) (λ i h. same (job_start m + i) (omega arith) (omega arith))
@@ -102,8 +99,7 @@ head_word w zero h = refl
 head_word w (suc zero) h = refl
 head_word w (suc (suc zero)) h = refl
 head_word w (suc (suc (suc zero))) h = refl
-head_word w (suc (suc (suc (suc zero)))) h = refl
-head_word w (suc (suc (suc (suc (suc i))))) h = absurd (omega arith)
+head_word w (suc (suc (suc (suc i)))) h = absurd (omega arith)
 
 -- a head's words but for clock and count are its settings': two boards with the same settings have them both
 pub head_other :
@@ -111,21 +107,9 @@ pub head_other :
     → get_or (head_words b) k 0 ≡ get_or (head_words d) k 0
 head_other b d zero e h nc nn = ap (λ (s : Settings). s.horizon) e
 head_other b d (suc zero) e h nc nn = ap (λ (s : Settings). s.lead) e
-head_other b d (suc (suc zero)) e h nc nn = ap (λ (s : Settings). s.gap) e
-head_other b d (suc (suc (suc zero))) e h nc nn = absurd (nc refl)
-head_other b d (suc (suc (suc (suc zero)))) e h nc nn = absurd (nn refl)
-head_other b d (suc (suc (suc (suc (suc k))))) e h nc nn = absurd (omega arith)
-
--- ---- settings that are lent
-
-module _ (l : List ℕ) where
-  pub settings_lent : length l ≡ settings_size → settings_read (word_in l) ≡ lent_settings l
-  unfolding lent_settings
-  settings_lent e = rw (eq-eqb (length l) settings_size e) refl
-
-  pub no_settings : (length l ≡ settings_size → ⊥) → settings_read zeros ≡ lent_settings l
-  unfolding lent_settings
-  no_settings ne = rw (ne_eqb (length l) settings_size ne) refl
+head_other b d (suc (suc zero)) e h nc nn = absurd (nc refl)
+head_other b d (suc (suc (suc zero))) e h nc nn = absurd (nn refl)
+head_other b d (suc (suc (suc (suc k)))) e h nc nn = absurd (omega arith)
 
 -- ---- a mark alone
 

@@ -23,7 +23,7 @@ joined f zero = []
 joined f (suc n) = joined f n ++ f n
 
 abbrev pub settings_words : Settings → List ℕ
-settings_words s = s.horizon ∷ s.lead ∷ s.gap ∷ []
+settings_words s = s.horizon ∷ s.lead ∷ []
 
 abbrev pub mark_of : Bool → ℕ
 mark_of s = cond s 1 0

@@ -1,8 +1,7 @@
 -- Where the words of a board stand (docs/FORMATS.md): the one place that says it. src/layout.rt has the same numbers for the code, and a contract
 -- that names one of these of code that uses another is not proved. All are abbreviations: a check sees numerals, and no proof names one.
 -- A word more in the head: a line `..At` behind its neighbour, and the next one counts from it. A word more in a job or a use: the same with `..In`.
---   horizon_at, lead_at, gap_at   the words of the settings, the tray gap last;  settings_size: how many they are
---   clock_at, count_at       the words of the head behind them;  head_size: how many the head has
+--   horizon_at, lead_at, clock_at, count_at   the words of the head;  head_size: how many they are
 --   batch_in, sent_in, due_in batch, mark and due time of a job, counted from its first word, the points;  job_size: how many a job has
 --   offset_in, length_in     offset and length of a use, counted from its first word, the point;  use_size: how many a use has
 --   uses_in                 the uses of a line, counted from its first word, the count;  uses_size, line_size: how many all its uses, and a line, have
@@ -20,14 +19,8 @@ horizon_at = 0
 abbrev pub lead_at : ℕ
 lead_at = horizon_at + 1
 
-abbrev pub gap_at : ℕ
-gap_at = lead_at + 1
-
-abbrev pub settings_size : ℕ
-settings_size = gap_at + 1
-
 abbrev pub clock_at : ℕ
-clock_at = settings_size
+clock_at = lead_at + 1
 
 abbrev pub count_at : ℕ
 count_at = clock_at + 1

@@ -5,7 +5,6 @@
 --   zeros              words that are all 0
 --   down_by_job l k      word k of the list l moved down by a job: the one a job further on;  up_by_use l k: moved up by a use
 --   settings_read w     what the board was made with
---   lent_settings l     the settings that are lent as the words l: words that are not as many stand for settings of zeros, which are out of range
 --   job_read, use_read, line_read w at   the job, use, line whose first word is number `at`
 --   job_at, line_at, cell_at w k   job k, line k, cell k;  use_at w at k: use k of the line whose first word is number `at`
 --   jobs_read w         all of them;  uses_read, lines_read, cells_read;  held_jobs w: the jobs with their count
@@ -26,7 +25,7 @@ use Rattle.part_lines.specs.declared.Line.{Line}
 use Rattle.part_lines.specs.ArrayLists.{lines_of}
 use Rattle.base_lists.specs.Loops.{build, all_below}
 use Rattle.part_boardwords.specs.Board.{Board}
-use Rattle.part_boardwords.specs.Layout.{horizon_at, lead_at, gap_at, settings_size, clock_at, count_at, batch_in, sent_in, due_in, offset_in, length_in, job_size, use_size}
+use Rattle.part_boardwords.specs.Layout.{horizon_at, lead_at, clock_at, count_at, batch_in, sent_in, due_in, offset_in, length_in, job_size, use_size}
 use Rattle.part_boardwords.specs.Layout.{cells_at, board_size, job_start, mark_at, line_start, use_start}
 
 abbrev pub Words : Type 0
@@ -45,11 +44,7 @@ abbrev pub up_by_use : List ℕ → Words
 up_by_use l k = word_in l (k - use_size)
 
 abbrev pub settings_read : Words → Settings
-settings_read w = record { horizon = w horizon_at; lead = w lead_at; gap = w gap_at }
-
--- horizon, lead and tray gap, as a board begins with them
-unfoldable pub lent_settings : List ℕ → Settings
-lent_settings l = cond (eqb (length l) settings_size) (settings_read (word_in l)) (settings_read zeros)
+settings_read w = record { horizon = w horizon_at; lead = w lead_at }
 
 -- a mark of 1 is sent, 0 unsent; `is_marked` says that it is one of the two
 abbrev pub job_read : Words → ℕ → Job

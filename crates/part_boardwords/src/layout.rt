@@ -6,12 +6,7 @@ pub const HORIZON_AT: usize = 0;
 
 pub const LEAD_AT: usize = HORIZON_AT + 1;
 
-pub const GAP_AT: usize = LEAD_AT + 1;
-
-// How many words the settings are; the clock stands behind them.
-pub const SETTINGS_SIZE: usize = GAP_AT + 1;
-
-pub const CLOCK_AT: usize = SETTINGS_SIZE;
+pub const CLOCK_AT: usize = LEAD_AT + 1;
 
 pub const COUNT_AT: usize = CLOCK_AT + 1;
 

@@ -6,13 +6,11 @@ mod making; // a job before it stands in words
 mod moving; // jobs and uses moved by one place
 mod places; // where a line begins
 mod reading; // settings, jobs, uses and cells from their words
-mod writing; // settings, jobs and uses as their words; places not in use cleared
+mod writing; // jobs and uses as their words; places not in use cleared
 
 pub use layout::{BOARD_BYTES, BOARD_WORDS};
 pub use making::new_job;
 pub use moving::{move_jobs_down, move_uses_up};
 pub use places::line_start;
-pub use reading::{are_marked, cell_at, job_at, lent_settings, read_jobs, settings_in, use_at};
-pub use writing::{
-    clear, clear_jobs, clear_uses, write_job, write_sent, write_settings, write_use,
-};
+pub use reading::{are_marked, cell_at, job_at, read_jobs, settings_in, use_at};
+pub use writing::{clear, clear_jobs, clear_uses, write_job, write_sent, write_use};

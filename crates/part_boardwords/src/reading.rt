@@ -1,8 +1,8 @@
 // The parts of a board read from its words, each number a word, by the definition in specs/Words.
 ghost use Rattle.std.specs.Prelude.{◌≡◌, ◌+◌, ◌*◌, ◌≤◌, ◌<◌, length};
 ghost use Rattle.spec_plain.specs.Limits.{most_jobs, most_uses, side};
-ghost use Rattle.part_boardwords.specs.Layout.{settings_size, job_size, use_size, cells_at, board_size, line_end};
-ghost use Rattle.part_boardwords.specs.Words.{word_in, settings_read, lent_settings, job_read, job_at, jobs_read, use_read, use_at, cell_at, is_marked, all_marked, held_jobs};
+ghost use Rattle.part_boardwords.specs.Layout.{job_size, use_size, cells_at, board_size, line_end};
+ghost use Rattle.part_boardwords.specs.Words.{word_in, settings_read, job_read, job_at, jobs_read, use_read, use_at, cell_at, is_marked, all_marked, held_jobs};
 
 use crate::layout;
 use crate::making::new_job;
@@ -18,30 +18,15 @@ fn word(s: &[u32], k: usize) -> u32
     s[k]
 }
 
-// What the board was made with. Settings alone are read alike: a board begins with them.
+// What the board was made with.
 pub fn settings_in(s: &[u32]) -> Settings
-    requires { settings_size ≤ length s.now }
+    requires { cells_at ≤ length s.now }
     ensures { result ≡ settings_read (word_in s.now) }
 {
     Settings {
         horizon: word(s, layout::HORIZON_AT),
         lead: word(s, layout::LEAD_AT),
-        gap: word(s, layout::GAP_AT),
     }
-}
-
-// The settings that are lent as words. Another number of words is no settings, and has a horizon that no board has.
-pub fn lent_settings(s: &[u32]) -> Settings
-    ensures { result ≡ lent_settings s.now }
-{
-    if s.len() != layout::SETTINGS_SIZE {
-        return Settings {
-            horizon: 0,
-            lead: 0,
-            gap: 0,
-        };
-    }
-    settings_in(s)
 }
 
 fn read_job(s: &[u32], at: usize) -> Job

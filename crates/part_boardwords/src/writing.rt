@@ -1,12 +1,12 @@
-// Settings, and jobs and uses by their number, written by the definition in specs/Codec; places not in use cleared.
+// Jobs and uses written by their number, by the definition in specs/Codec; places not in use cleared.
 ghost use Rattle.std.specs.Prelude.{◌≡◌, [], ◌∷◌, ◌+◌, ◌≤◌, ◌<◌, length, set};
 ghost use Rattle.base_lists.specs.Loops.{rewritten};
 ghost use Rattle.spec_plain.specs.Limits.{most_jobs, most_uses};
-ghost use Rattle.part_boardwords.specs.Layout.{settings_size, lines_at, cells_at, job_start, mark_at, line_end, use_start};
-ghost use Rattle.part_boardwords.specs.Codec.{settings_words, mark_of, job_words, use_words, overwritten};
+ghost use Rattle.part_boardwords.specs.Layout.{lines_at, cells_at, job_start, mark_at, line_end, use_start};
+ghost use Rattle.part_boardwords.specs.Codec.{mark_of, job_words, use_words, overwritten};
 
 use crate::layout;
-use spec_plain::{Job, Settings, Use};
+use spec_plain::{Job, Use};
 
 // Three words, from `at` on.
 fn write_three(w: &mut [u32], at: usize, a: u32, b: u32, c: u32)
@@ -26,16 +26,6 @@ pub fn clear(w: &mut [u32], from: usize, to: usize)
     for k in from..to {
         w[k] = 0;
     }
-}
-
-// What a board is made with, in its first words.
-pub fn write_settings(w: &mut [u32], s: Settings)
-    requires { settings_size ≤ length w.old }
-    ensures { w.new ≡ overwritten w.old 0 (settings_words s) }
-{
-    w[layout::HORIZON_AT] = s.horizon;
-    w[layout::LEAD_AT] = s.lead;
-    w[layout::GAP_AT] = s.gap;
 }
 
 // ---- jobs

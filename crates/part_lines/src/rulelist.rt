@@ -118,7 +118,7 @@ pub fn end_of(s: Settings, u: Use) -> u32
 pub fn tray_gap(s: Settings) -> u32
     ensures { result ≡ tray_gap s }
 {
-    s.gap
+    0
 }
 
 // The use a ends no later than the use b starts.

@@ -1,5 +1,5 @@
 -- The test of a board is true exactly where document 01 calls the board sound.
---   numbers_to, numbers_of   settings and clock;  settings_to, settings_of: the settings (InLimits);  jobs_to, jobs_of_lem: the jobs' sizes
+--   numbers_to, numbers_of   horizon, lead and clock;  settings_to: horizon and lead;  jobs_to, jobs_of_lem: the jobs' sizes
 --   few_points_lem, jobs_sized   what the walks of the jobs ask: that each has few points, and all together
 --   all_to, all_of_lem           a list whose elements are tested one by one
 --   first_to, first_of       sent jobs come first
@@ -22,7 +22,7 @@ use Rattle.spec_plain.specs.declared.Job.{Job}
 use Rattle.part_lines.specs.declared.Jobs.{Jobs}
 use Rattle.spec_plain.specs.declared.Use.{Use}
 use Rattle.part_lines.specs.declared.Line.{Line}
-use Rattle.spec_plain.specs.Plain.{sized_settings, total}
+use Rattle.spec_plain.specs.Plain.{total}
 use Rattle.part_lines.specs.ArrayLists.{jobs_of, line_of, no_line}
 use Rattle.part_lines.specs.Asked.{Sized}
 use Rattle.base_lists.specs.All.{All}
@@ -45,6 +45,7 @@ use Rattle.part_sound.specs.Sound.{
   points_of,
   Sound,
   all_of,
+  sized_settings,
   sized_numbers,
   sized_job,
   sized_jobs,
@@ -75,38 +76,27 @@ module _ (s : Settings) where
   abbrev InRange : Type 0
   InRange = (1 ≤ s.horizon) × (s.horizon ≤ 100000000)
 
-  -- what Sound says of the settings
-  pub record InLimits : Type 0 where
-    pub horizon : (1 ≤ s.horizon) × (s.horizon ≤ 100000000)
-    pub lead : s.lead ≤ 1000000
-    pub tray_gap_lem : s.gap ≤ 10000
-
-  pub settings_to : sized_settings s ≡ true → InLimits
+  pub settings_to : sized_settings s ≡ true → InRange × (s.lead ≤ 1000000)
   settings_to h =
-      let p = both_true (leb 1 s.horizon && leb s.horizon 100000000 && leb s.lead 1000000) (leb s.gap 10000) h in
-      let q = both_true (leb 1 s.horizon && leb s.horizon 100000000) (leb s.lead 1000000) p.0 in
-      let r = both_true (leb 1 s.horizon) (leb s.horizon 100000000) q.0 in
-      record {
-        horizon = (leb-true 1 s.horizon r.0, leb-true s.horizon 100000000 r.1);
-        lead = leb-true s.lead 1000000 q.1;
-        tray_gap_lem = leb-true s.gap 10000 p.1;
-      }
-
-  settings_of : InLimits → sized_settings s ≡ true
-  settings_of m =
-      rw (
-        le-leb 1 s.horizon m.horizon.0,
-        le-leb s.horizon 100000000 m.horizon.1,
-        le-leb s.lead 1000000 m.lead,
-        le-leb s.gap 10000 m.tray_gap_lem,
-      )
+      let p = both_true (leb 1 s.horizon && leb s.horizon 100000000) (leb s.lead 1000000) h in
+      let q = both_true (leb 1 s.horizon) (leb s.horizon 100000000) p.0 in
+      ((leb-true 1 s.horizon q.0, leb-true s.horizon 100000000 q.1), leb-true s.lead 1000000 p.1)
 
   module _ (c : ℕ) where
-    pub numbers_to : sized_numbers s c ≡ true → InLimits × (c ≤ s.horizon)
-    numbers_to h = let p = both_true (sized_settings s) (leb c s.horizon) h in (settings_to p.0, leb-true c s.horizon p.1)
+    pub numbers_to : sized_numbers s c ≡ true → InRange × (s.lead ≤ 1000000) × (c ≤ s.horizon)
+    numbers_to h =
+        let p = both_true (sized_settings s) (leb c s.horizon) h in
+        let q = settings_to p.0 in
+        (q.0, q.1, leb-true c s.horizon p.1)
 
-    numbers_of : InLimits → c ≤ s.horizon → sized_numbers s c ≡ true
-    numbers_of m e = rw (settings_of m, le-leb c s.horizon e)
+    numbers_of : InRange → s.lead ≤ 1000000 → c ≤ s.horizon → sized_numbers s c ≡ true
+    numbers_of h d e =
+        rw (
+          le-leb 1 s.horizon h.0,
+          le-leb s.horizon 100000000 h.1,
+          le-leb s.lead 1000000 d,
+          le-leb c s.horizon e,
+        )
 
 module _ (H : ℕ) where
   job_to : (j : Job) → sized_job H j ≡ true → SizedJob H j
@@ -311,10 +301,9 @@ module _ (b : Board) where
       let jobs = jobs_to b.settings.horizon b.jobs q.0 in
       record {
         marked = (sound_parts h).0;
-        horizon = ranges.0.horizon;
-        lead = ranges.0.lead;
-        tray_gap_lem = ranges.0.tray_gap_lem;
-        clock = ranges.1;
+        horizon = ranges.0;
+        lead = ranges.1;
+        clock = ranges.2;
         jobs = jobs.0;
         sizes = jobs.1;
         points = jobs.2;
@@ -331,7 +320,7 @@ module _ (b : Board) where
       let n = points_of b in
       let js = jobs_of b.jobs in
       let numbers : sized_numbers b.settings b.clock ≡ true =
-      numbers_of b.settings b.clock (record { horizon = s.horizon; lead = s.lead; tray_gap_lem = s.tray_gap_lem }) s.clock in
+      numbers_of b.settings b.clock s.horizon s.lead s.clock in
       let lined : all_of (sized_line n) b.lines ≡ true =
       all_of_lem (SizedLine n) (sized_line n) (line_of_lem n) b.lines
       (all_from (SizedLine n) b.lines no_line (λ k lt. (s.lines k (omega arith), s.uses k (omega arith)))) in

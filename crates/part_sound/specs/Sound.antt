@@ -6,6 +6,7 @@
 --   points_of b           the live points beside the origin
 --   Sound b              the definition
 --   sound b              the test; proofs/Soundness says that it is true exactly when Sound b holds. It is made of
+--     sized_settings s    horizon and lead are within the limits: what fresh asks of them too
 --     sized_numbers, sized_jobs, sized_line   the numbers are within the limits: of the board, of its jobs (sized_job: of one), of a line
 --                        (sized_use: of a use);  all_of f l: the test f holds of each
 --     sent_from           sent jobs come first
@@ -18,7 +19,7 @@ use Rattle.spec_plain.specs.declared.Job.{Job}
 use Rattle.part_lines.specs.declared.Jobs.{Jobs}
 use Rattle.spec_plain.specs.declared.Use.{Use}
 use Rattle.part_lines.specs.declared.Line.{Line}
-use Rattle.spec_plain.specs.Plain.{sized_settings, total}
+use Rattle.spec_plain.specs.Plain.{total}
 pub use Rattle.spec_plain.specs.Sent.{NoneSent, SentFirst}
 use Rattle.part_lines.specs.ArrayLists.{jobs_of, line_of, no_line}
 use Rattle.base_lists.specs.All.{All}
@@ -60,8 +61,6 @@ pub record Sound (b : Board) : Type 0 where
   pub marked : b.marked ≡ true
   pub horizon : (1 ≤ b.settings.horizon) × (b.settings.horizon ≤ 100000000)
   pub lead : b.settings.lead ≤ 1000000
-  -- document 02, Note 4: "a tray gap of 0 to 10,000 ms"
-  pub tray_gap_lem : b.settings.gap ≤ 10000
   -- "its clock is at most H"
   pub clock : b.clock ≤ b.settings.horizon
   -- "At most 16 jobs and, beside the origin, 64 points are live."
@@ -84,7 +83,11 @@ abbrev pub all_of : {A : Type 0} → (A → Bool) → List A → Bool
 all_of f [] = true
 all_of f (a ∷ l) = f a && all_of f l
 
--- settings and clock
+-- "a horizon H (1 to 100,000,000), a lead D (0 to 1,000,000)"
+abbrev pub sized_settings : Settings → Bool
+sized_settings s = leb 1 s.horizon && leb s.horizon 100000000 && leb s.lead 1000000
+
+-- horizon, lead and clock
 abbrev pub sized_numbers : Settings → ℕ → Bool
 sized_numbers s c = sized_settings s && leb c s.horizon
 

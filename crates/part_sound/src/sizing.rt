@@ -1,20 +1,19 @@
 // The board's numbers and its jobs. They are tested first, so that whatever is walked and added later is small.
 ghost use Rattle.std.specs.Prelude.{◌≡◌, true, ◌≤◌, length};
 ghost use Rattle.spec_plain.specs.Limits.{most_jobs};
-ghost use Rattle.spec_plain.specs.Plain.{sized_settings};
 ghost use Rattle.part_lines.specs.ArrayLists.{jobs_of};
 ghost use Rattle.part_boardwords.specs.Layout.{count_at, cells_at};
 ghost use Rattle.part_boardwords.specs.Words.{word_in, held_jobs};
-ghost use Rattle.part_sound.specs.Sound.{all_of, sized_numbers, sized_job};
+ghost use Rattle.part_sound.specs.Sound.{all_of, sized_settings, sized_numbers, sized_job};
 
 use part_boardwords::{job_at, layout};
 use spec_plain::{Job, Settings};
 
-// The settings, of a board and of one to come.
+// Horizon and lead, of a board and of one to come.
 pub fn are_settings_sized(s: Settings) -> bool
     ensures { result ≡ sized_settings s }
 {
-    (1 <= s.horizon) & (s.horizon <= 100_000_000) & (s.lead <= 1_000_000) & (s.gap <= 10_000)
+    (1 <= s.horizon) & (s.horizon <= 100_000_000) & (s.lead <= 1_000_000)
 }
 
 pub fn are_numbers_sized(s: Settings, clock: u32) -> bool

@@ -1,8 +1,7 @@
 -- The plain machine (document 01, "Points, rules, timetables"): what plan, send, clock and retire do to jobs, lines and clock, and which
 -- rules they make. No table and no timetable: the rule book decides by the definition which of these rules can be kept.
 --   Offer            an offer as it was read: batch, due time, steps, allocations
---   State            jobs (oldest first), one line per resource, clock, settings (horizon H, lead D, tray gap)
---   sized_settings s  settings within the limits: what fresh asks of them, and soundness too
+--   State            jobs (oldest first), one line per resource, clock, settings (horizon H, lead D)
 --   with_jobs, with_lines, with_clock, with_settings   a state with other jobs, other lines, another clock, other settings
 --   new_job n b q, sent_job j   an unsent job of n points, batch b and due time q; the job j, sent
 --   total, live_count how many points live beside the origin, and with it. The origin is point 0, the first job's p0 is point 1, and so on
@@ -85,10 +84,6 @@ new_job n b q = record { points = n; batch = b; sent = false; due = q }
 abbrev pub sent_job : Job → Job
 sent_job j = record { points = j.points; batch = j.batch; sent = true; due = j.due }
 
--- "a horizon H (1 to 100,000,000), a lead D (0 to 1,000,000)"; document 02, Note 4: "a tray gap of 0 to 10,000 ms"
-abbrev pub sized_settings : Settings → Bool
-sized_settings s = leb 1 s.horizon && leb s.horizon 100000000 && leb s.lead 1000000 && leb s.gap 10000
-
 unfoldable pub total : List Job → ℕ
 total [] = 0
 total (j ∷ js) = j.points + total js
@@ -102,10 +97,10 @@ live_count s = suc (total s.jobs)
 abbrev pub end_of : Settings → Use → ℕ
 end_of s u = u.offset + u.length
 
--- how long after a job's last point the tray is free (document 02, Note 4). "Rule (e) becomes: pn is at least the gap later than the earlier job's last
--- point. Retire waits until the last point plus the gap is at or before the clock": every job, of a batch or not
+-- how long after a job's last point the tray is free: no time at all. Rule (e): a job's last point is at least so much later than that of the
+-- job before it in its batch. Retire: the job's last point is so much before the clock, at least
 abbrev pub tray_gap : Settings → ℕ
-tray_gap s = s.gap
+tray_gap s = 0
 
 -- the batch of a job
 abbrev pub job_batch : Job → ℕ
@@ -188,8 +183,8 @@ unfoldable pub or_else : List Rule → List Rule → List Rule
 or_else [] rs = rs
 or_else (r ∷ rs) others = r ∷ rs
 
--- (e) "if the batch isn't 0 and a live job has it", pn is at least the tray gap d later than "the last point of the newest such job". The jobs are
--- listed oldest first, so a later job's rule comes first. b is the batch, last the number of pn, x the first point of the list's first job
+-- (e) "if the batch isn't 0 and a live job has it, pn is no earlier than the last point of the newest such job". The jobs are listed oldest
+-- first, so a later job's rule comes first. d is the distance, b the batch, last the number of pn, x the first point of the list's first job
 unfoldable pub after_newest : ℕ → ℕ → ℕ → ℕ → List Job → List Rule
 after_newest d b last x [] = []
 after_newest d b last x (j ∷ js) =

@@ -2,13 +2,11 @@
 // crates part_lines, part_linewords, part_jobwords and part_drafts. It may use base_rulings alone: neither bytes nor a table.
 pub mod limits; // how much a board holds
 
-// What a board is made with: its horizon H, the latest time of a point; its lead D, how long after the clock a job starts at the earliest; and its
-// tray gap, how long after a sheet the next one of its batch may come to the tray.
+// What a board is made with: its horizon H, the latest time of a point, and its lead D, how long after the clock a job starts at the earliest.
 #[derive(Drop)]
 pub struct Settings {
     pub horizon: u32,
     pub lead: u32,
-    pub gap: u32,
 }
 
 // A job: how many points it has (one more than steps), its batch (0 is none), whether it was sent, and its due time, the latest time of its last

@@ -60,7 +60,7 @@ joined_in_time u n y end (j ∷ js) x e h = (h.0, joined_in_time u n y end js (x
 
 -- ---- rules made
 
-pub made_possible : (s : Plain.State) (b : Book) (rs : List Rule) (u : Times) → Possible (made s b rs) u → Possible b u × KeepsAll u rs
+made_possible : (s : Plain.State) (b : Book) (rs : List Rule) (u : Times) → Possible (made s b rs) u → Possible b u × KeepsAll u rs
 unfolding Possible made completed
 made_possible s b rs u p =
     let t = completed u p.1.0 in

@@ -1,4 +1,3 @@
-pub mod Apart
 pub mod InTime
 pub mod Kept
 pub mod Outcome

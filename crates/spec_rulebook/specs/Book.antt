@@ -3,7 +3,6 @@
 --   Call               a call's arguments: raw bytes and numbers
 --   Point              a live point by its number, the origin 0; or a retired one
 --   Book               the plain machine's state, and every rule made so far;  fresh s: the first one;  made: with more rules
---   settings_ruling s   the ruling of fresh with these settings: 5 where one is out of range (bad_settings)
 --   Possible b u       the timetable u over the live points is possible, `completed` by numbers for the retired ones
 --   Consistent b               some timetable is possible
 --   LeastTime Y x v    v is the least time of x over the timetables Y: attained, and never below;  GreatestTime: the greatest, never above
@@ -15,11 +14,11 @@
 --   Step b c r k       the call c on the book b is ruled r and leaves the book k, by Reads and Plans, Sends (AllLeast) and Retires (reindexed)
 --   Runs b cs rs k     a list of calls, their rulings, and the book at the end
 -- Step is a relation, since what exists is not computed here; that each call has one outcome is proved through the board.
-use Rattle.std.specs.Prelude.{◌≡◌, ◌⊎◌, Bool, true, false, cond, not, List, [], ◌∷◌, ◌++◌, map, ℕ, zero, suc, ◌+◌, ◌-◌, ℤ, pos, ◌+ℤ◌, ◌≤ℤ◌}
+use Rattle.std.specs.Prelude.{◌≡◌, ◌⊎◌, Bool, true, false, cond, List, [], ◌∷◌, ◌++◌, map, ℕ, zero, suc, ◌+◌, ◌-◌, ℤ, pos, ◌+ℤ◌, ◌≤ℤ◌}
 use Rattle.base_rulings.specs.declared.Cause.{Cause}
 use Rattle.base_rulings.specs.declared.Ruling.{Ruling}
 use Rattle.base_rulings.specs.declared.Ruling.TheVariants.{Accepted, Refused}
-use Rattle.base_rulings.specs.Answer.{plain, refuse}
+use Rattle.base_rulings.specs.Answer.{plain}
 use Rattle.spec_plain.specs.Limits.{resources}
 use Rattle.spec_plain.specs.declared.Settings.{Settings}
 use Rattle.spec_plain.specs.declared.Use.{Use}
@@ -48,13 +47,6 @@ pub record Book : Type 0 where
 unfoldable pub empty_lines : ℕ → List (List Use)
 empty_lines zero = []
 empty_lines (suc n) = [] ∷ empty_lines n
-
--- 5 "H or D is out of range"; document 02, Note 4: "a gap out of range is refusal 5"
-unfoldable pub bad_settings : Settings → Bool
-bad_settings s = not (Plain.sized_settings s)
-
-unfoldable pub settings_ruling : Settings → Ruling
-settings_ruling s = cond (bad_settings s) (refuse 5) Accepted
 
 unfoldable pub fresh : Settings → Book
 fresh s = record { state = record { jobs = []; lines = empty_lines resources; clock = 0; settings = s }; rules = [] }

@@ -121,7 +121,6 @@ module _ {s : State} (p : Limits s) (o : Offer) (sized : SizedOffer s.settings.h
         record {
           horizon = p.horizon;
           lead = p.lead;
-          tray_gap_lem = p.tray_gap_lem;
           clock = p.clock;
           jobs = omega (arith, length-append s.jobs (job_from o ∷ []));
           sizes = all_append (SizedJob s.settings.horizon) s.jobs (job_from o ∷ []) p.sizes (job, tt);

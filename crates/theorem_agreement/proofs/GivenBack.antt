@@ -39,7 +39,7 @@ use Rattle.part_sound.proofs.Soundness.{sound_to}
 use Rattle.part_sound.proofs.InWords.{lent_is}
 use Rattle.call_board.specs.Ruled.{Ruled}
 use Rattle.spec_plain.specs.declared.Settings.{Settings}
-use Rattle.call_board.specs.Boards.{state_of, board_of, bad_settings, settings_ruling, fresh_cells, fresh_board, zero_board, fresh_ruled}
+use Rattle.call_board.specs.Boards.{state_of, board_of, bad_settings, fresh_cells, fresh_board, zero_board, fresh_ruled}
 use Rattle.call_board.specs.Calls.{refused_with, refusal, accepted, settled, unless_refused, decided, heard, planned, sent, clocked, departed, retired}
 use Rattle.call_board.specs.InWords.{words_after, fresh_ruling, fresh_words}
 use Rattle.call_board.proofs.FreshSound.{fresh_sound}
@@ -212,11 +212,11 @@ module _ (w : List ℕ) where
       let b = lent_board w in back (retired b) (λ e. call_stands retire (retired b) refl (sound_first b _ e) (made_retired b) e)
 
   pub fresh_back : (s : Settings) → fresh_ruling s w ≡ Accepted → lent_board (fresh_words s w) ≡ (fresh_ruled s).board
-  unfolding fresh_ruling fresh_words fresh_ruled settings_ruling
+  unfolding fresh_ruling fresh_words fresh_ruled
   fresh_back s = go (eqb (length w) board_size) (bad_settings s) refl
     where
       ruled : Bool → Ruled
-      ruled t = record { ruling = cond t (refuse 5) Accepted; board = cond t zero_board (fresh_board s) }
+      ruled t = cond t (record { ruling = refuse 5; board = zero_board }) (record { ruling = Accepted; board = fresh_board s })
 
       go : (t u : Bool) → bad_settings s ≡ u → cond t (ruled u).ruling (refuse 6) ≡ Accepted
           → lent_board (cond t (words_of (ruled u).board) w) ≡ (ruled u).board

@@ -26,7 +26,7 @@ use Rattle.spec_rulebook.specs.Book.{Book, Call, fresh, empty_lines, Runs}
 use Rattle.part_boardwords.specs.Board.{Board}
 use Rattle.part_sound.specs.Sound.{Sound}
 use Rattle.spec_plain.specs.declared.Settings.{Settings}
-use Rattle.call_board.specs.Boards.{state_of, bad_settings, settings_ruling, fresh_cells, fresh_ruled, fresh_board}
+use Rattle.call_board.specs.Boards.{state_of, bad_settings, fresh_cells, fresh_ruled, fresh_board}
 use Rattle.call_board.proofs.FreshSound.{fresh_cells_lem, fresh_sound}
 use Rattle.theorem_demands.specs.Model as Model
 use Rattle.theorem_demands.specs.Beside.{Sim}
@@ -90,7 +90,7 @@ module _ (s : Settings) (good : bad_settings s ≡ false) where
 
   -- what fresh answers is the abstract board at the start
   fresh_answered : Answered (fresh_ruled s) (record { ruling = Accepted; board = Model.fresh s })
-  unfolding fresh_ruled settings_ruling Model.fresh
+  unfolding fresh_ruled Model.fresh
   fresh_answered =
       rw good
       (record {

@@ -2,23 +2,20 @@
 --   Stands w b       the words w are those of the board b, and stand for it
 --   call-back        the words after any call stand for the board after it: an accepted call's by GivenBack, a refused one's as they came
 --   call_stands, through_stand   so do those after a call, after a list of calls, on words that do;  through_ruled: the rulings are the board's
---   opens_good, opens_words   where fresh is accepted: the settings are in range, and the words are those of the fresh board
 --   fresh_stands     what fresh writes stands for the fresh board
 --   cell_word_lem        a cell of the board that words stand for is their word
 --   words_right, demand3_on_words   the theorems
 use mathlib.Core.Path.{◌≡◌, refl, sym, ap, ap₂, ◌∙◌}
 use mathlib.Core.Logic.{◌↔◌}
-use mathlib.Core.Bool.{Bool, true, false, cond}
+use mathlib.Core.Bool.{false}
 use mathlib.Core.List.{List, [], ◌∷◌}
 use Prim.Native.Nat.{ℕ, ◌+◌, ◌*◌, ◌<◌}
 use native.Mathlib.Omega.{arith}
 use lib.ListN.{length}
-use lib.Dec.{eqb}
+use borrow.Author.Tests.{eq-eqb}
 use Rattle.base_rulings.specs.declared.Ruling.{Ruling}
 use Rattle.base_rulings.specs.declared.Ruling.TheVariants.{Accepted, Refused}
-use Rattle.base_rulings.specs.Answer.{plain, refuse}
 use Rattle.base_rulings.specs.Order.{if_accepted}
-use Rattle.base_rulings.proofs.RulingLaws.{refused_no}
 use Rattle.base_lists.proofs.Build.{build_at}
 use Rattle.spec_plain.specs.Limits.{side, cell_count}
 use Rattle.spec_plain.specs.declared.Settings.{Settings}
@@ -26,17 +23,17 @@ use Rattle.spec_rulebook.specs.Book.{Call, plan, send, clock, retire}
 use Rattle.part_gaps.specs.Cells.{cell}
 use Rattle.part_boardwords.specs.Board.{Board}
 use Rattle.part_boardwords.specs.Layout.{board_size}
-use Rattle.part_boardwords.specs.Words.{word_in, lent_settings, cell_at, lent_board}
+use Rattle.part_boardwords.specs.Words.{word_in, cell_at, lent_board}
 use Rattle.part_boardwords.specs.Codec.{words_of}
 use Rattle.part_boardwords.proofs.Overwritten.{length_words}
 use Rattle.part_sound.proofs.InWords.{lent_is}
 use Rattle.call_board.specs.Ruled.{Ruled}
-use Rattle.call_board.specs.Boards.{bad_settings, settings_ruling, fresh_ruled}
+use Rattle.call_board.specs.Boards.{bad_settings, fresh_ruled}
 use Rattle.call_board.specs.InWords.{words_after, fresh_ruling, fresh_words}
 use Rattle.theorem_agreement.specs.Abstract.{live_points}
 use Rattle.theorem_agreement.specs.Runs.{started, call_ruled, board_after, rulings}
 use Rattle.theorem_agreement.specs.Demand3.{SameCells}
-use Rattle.theorem_agreement.specs.OnWords.{call_words, words_through, rulings_through, Opens, opening, WordsRight, cell_word, SameCellWords, Demand3OnWords}
+use Rattle.theorem_agreement.specs.OnWords.{call_words, words_through, rulings_through, WordsRight, cell_word, SameCellWords, Demand3OnWords}
 use Rattle.theorem_agreement.proofs.Refused.{refused_same}
 use Rattle.theorem_agreement.proofs.GivenBack.{plan_back, send_back, clock_back, retire_back, fresh_back}
 use Rattle.theorem_agreement.proofs.Lists.{agreement}
@@ -87,43 +84,25 @@ through_ruled (c ∷ cs) w b st =
     ap₂ ◌∷◌ (ap (λ (d : Board). (call_ruled d c).ruling) st.board)
     (through_ruled cs (call_words w c) (call_ruled b c).board (call_stands w b st c))
 
--- ---- from a fresh board
+module _ (s : Settings) (good : bad_settings s ≡ false) (w : List ℕ) (size : length w ≡ board_size) where
+  fresh_stands : Stands (fresh_words s w) (started s)
+  unfolding fresh_ruling fresh_words fresh_ruled
+  fresh_stands =
+      let many = eq-eqb (length w) board_size size in
+      record { words = rw many refl; board = fresh_back w s (rw (many, good) refl) }
 
--- what fresh accepts is in range
-opens_good : (s : Settings) (w : List ℕ) → fresh_ruling s w ≡ Accepted → bad_settings s ≡ false
-unfolding fresh_ruling fresh_ruled settings_ruling
-opens_good s w = go (eqb (length w) board_size) (bad_settings s) refl
-  where
-    go : (t u : Bool) → bad_settings s ≡ u → cond t (cond u (refuse 5) Accepted) (refuse 6) ≡ Accepted → bad_settings s ≡ false
-    go false u q e = absurd (refused_no (plain 6) e)
-    go true true q e = absurd (refused_no (plain 5) e)
-    go true false q e = q
-
--- and as many words as a board has become those of the fresh board
-opens_words : (s : Settings) (w : List ℕ) → fresh_ruling s w ≡ Accepted → fresh_words s w ≡ words_of (fresh_ruled s).board
-unfolding fresh_ruling fresh_words
-opens_words s w = go (eqb (length w) board_size)
-  where
-    go : (t : Bool) → cond t (fresh_ruled s).ruling (refuse 6) ≡ Accepted → cond t (words_of (fresh_ruled s).board) w ≡ words_of (fresh_ruled s).board
-    go true e = refl
-    go false e = absurd (refused_no (plain 6) e)
-
-module _ (ss w : List ℕ) (opens : Opens ss w) where
-  fresh_stands : Stands (opening ss w) (started (lent_settings ss))
-  fresh_stands = record { words = opens_words (lent_settings ss) w opens; board = fresh_back w (lent_settings ss) opens }
-
-  stands : (cs : List Call) → Stands (words_through (opening ss w) cs) (board_after (started (lent_settings ss)) cs)
-  stands cs = through_stand cs (opening ss w) (started (lent_settings ss)) fresh_stands
+  stands : (cs : List Call) → Stands (words_through (fresh_words s w) cs) (board_after (started s) cs)
+  stands cs = through_stand cs (fresh_words s w) (started s) fresh_stands
 
 pub words_right : WordsRight
-words_right ss w opens cs =
-    let st = stands ss w opens cs in
-    let ruled = through_ruled cs (opening ss w) (started (lent_settings ss)) (fresh_stands ss w opens) in
+words_right s good w size cs =
+    let st = stands s good w size cs in
+    let ruled = through_ruled cs (fresh_words s w) (started s) (fresh_stands s good w size) in
     record {
       words = st.words;
       board = st.board;
       same = ruled;
-      book = λ rs k p. ruled ∙ sym ((agreement (lent_settings ss) (opens_good (lent_settings ss) w opens) cs).same_rulings_lem rs k p);
+      book = λ rs k p. ruled ∙ sym ((agreement s good cs).same_rulings_lem rs k p);
     }
 
 -- ---- cells
@@ -143,21 +122,17 @@ module _ (v w : List ℕ) (b d : Board) (st : Stands v b) (su : Stands w d) wher
   )
 
 pub demand3_on_words : Demand3OnWords
-demand3_on_words ss ts v w by-ss by-ts cs ds same =
-    let s = lent_settings ss in
-    let t = lent_settings ts in
-    let good = opens_good s v by-ss in
-    let fine = opens_good t w by-ts in
+demand3_on_words s t good fine v w sv sw cs ds same =
     let one = agreement s good cs in
     let other = agreement t fine ds in
-    let st = stands ss v by-ss cs in
-    let su = stands ts w by-ts ds in
+    let st = stands s good v sv cs in
+    let su = stands t fine w sw ds in
     let b = board_after (started s) cs in
     let d = board_after (started t) ds in
     let live : live_points b ≡ live_points d = ap live_points (sym st.board) ∙ same ∙ ap live_points su.board in
     let cells = cells_same _ _ b d st su in
-    let ruled = (words_right ss v by-ss cs).same in
-    let answered = (words_right ts w by-ts ds).same in
+    let ruled = (words_right s good v sv cs).same in
+    let answered = (words_right t fine w sw ds).same in
     rw (ruled, answered)
     (fed s good cs _ (λ k m. fed t fine ds _ (λ j n.
     let right = tables_right b d one.shaped other.shaped one.sound other.sound live m n in

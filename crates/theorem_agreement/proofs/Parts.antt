@@ -39,7 +39,6 @@ pub record SizedLine (n : ℕ) (us : List Use) : Type 0 where
 pub record Limits (s : State) : Type 0 where
   pub horizon : (1 ≤ s.settings.horizon) × (s.settings.horizon ≤ 100000000)
   pub lead : s.settings.lead ≤ 1000000
-  pub tray_gap_lem : s.settings.gap ≤ 10000
   pub clock : s.clock ≤ s.settings.horizon
   pub jobs : length s.jobs ≤ most_jobs
   pub sizes : All (SizedJob s.settings.horizon) s.jobs
@@ -90,7 +89,6 @@ parts_of b w s =
           record {
             horizon = s.horizon;
             lead = s.lead;
-            tray_gap_lem = s.tray_gap_lem;
             clock = s.clock;
             jobs = omega (arith, length-take b.jobs.count b.jobs.jobs, s.jobs);
             sizes = s.sizes;
@@ -156,7 +154,6 @@ module _ {s : State} {l : List ℕ} (p : Parts s l) where
         marked = refl;
         horizon = q.horizon;
         lead = q.lead;
-        tray_gap_lem = q.tray_gap_lem;
         clock = q.clock;
         jobs = q.jobs;
         sizes = rw back q.sizes;

@@ -112,7 +112,6 @@ sized_from s (j ∷ js) p = go j.sent _ (live, refl, limits)
         record {
           horizon = p.horizon;
           lead = p.lead;
-          tray_gap_lem = p.tray_gap_lem;
           clock = p.clock;
           jobs = omega (arith, few);
           sizes = p.sizes.1;

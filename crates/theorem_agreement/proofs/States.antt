@@ -32,7 +32,6 @@ sent_limits {s} place p =
     record {
       horizon = p.horizon;
       lead = p.lead;
-      tray_gap_lem = p.tray_gap_lem;
       clock = p.clock;
       jobs = omega (arith, length_marked (suc place) s.jobs, few);
       sizes = sizes_marked s.settings.horizon (suc place) s.jobs p.sizes;
@@ -48,7 +47,6 @@ clock_limits {s} c e p =
     record {
       horizon = p.horizon;
       lead = p.lead;
-      tray_gap_lem = p.tray_gap_lem;
       clock = leb-true c s.settings.horizon (both_true (leb s.clock c) (leb c s.settings.horizon) e).1;
       jobs = p.jobs;
       sizes = p.sizes;

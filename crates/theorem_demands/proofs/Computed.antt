@@ -2,8 +2,7 @@
 -- is refused here. Assumes nothing.
 --   plant_length, offer_length    the bytes are as many as document 01 says
 --   Computes, AllCompute          what is computed of a case, of each of a list
---   computed, further_computed, dues_computed, trays_computed   the tables of calls compute;  shown_open: the definitions to unfold for it
---   settings_computed             the table of settings
+--   computed, further_computed, dues_computed   the tables of calls compute;  shown_open: the definitions to unfold for it
 --   drafts_computed               the table of limits
 --   plants_computed, parts_computed, offers_computed, spelled_computed   the tables of what is read from bytes
 --   written_computed, held_computed   the tables of what is written
@@ -23,10 +22,9 @@ use Rattle.theorem_demands.specs.Shown.{is_accepted, kind_of, same_ruling, same_
 use Rattle.theorem_demands.specs.ProvingTable.{plant, job_j, table}
 use Rattle.theorem_demands.specs.FurtherTable.{further_table, AllDraft, draft_table}
 use Rattle.theorem_demands.specs.DueTable.{due_table}
-use Rattle.theorem_demands.specs.TrayTable.{tray_table, AllRule, settings_table}
 use Rattle.theorem_demands.specs.ReadingTable.{AllPlants, plant_table, AllParts, part_table, AllOffers, offer_table, AllSpelled, spelled_table}
 use Rattle.theorem_demands.specs.WritingTable.{AllWritten, write_table, AllHeld, held_table}
-use Rattle.theorem_demands.proofs.Computing.{computing, settings_open, writing_open}
+use Rattle.theorem_demands.proofs.Computing.{computing, writing_open}
 
 -- the bytes are as many as document 01 says
 pub plant_length : length plant ≡ 120
@@ -84,20 +82,6 @@ dues_computed =
     both (refl, refl, refl) (both (refl, refl, refl) (both (refl, refl, refl) (both (refl, refl, refl) (
     both (refl, refl, refl) (both (refl, refl, refl) (both (refl, refl, refl) (both (refl, refl, refl) (
     both (refl, refl, refl) (both (refl, refl, refl) tt)))))))))))))))))
-
-pub trays_computed : AllCompute tray_table
-unfolding computing shown_open count_trailing_zeros
-trays_computed =
-    both (refl, refl, refl) (both (refl, refl, refl) (both (refl, refl, refl) (both (refl, refl, refl) (
-    both (refl, refl, refl) (both (refl, refl, refl) (both (refl, refl, refl) (both (refl, refl, refl) (
-    both (refl, refl, refl) (both (refl, refl, refl) (both (refl, refl, refl) (both (refl, refl, refl) (
-    both (refl, refl, refl) (both (refl, refl, refl) (both (refl, refl, refl) (both (refl, refl, refl) (
-    both (refl, refl, refl) (both (refl, refl, refl) (both (refl, refl, refl) (both (refl, refl, refl) (
-    both (refl, refl, refl) tt))))))))))))))))))))
-
-pub settings_computed : AllRule settings_table
-unfolding settings_open
-settings_computed = (refl, (refl, (refl, (refl, (refl, (refl, (refl, (refl, (refl, (refl, (refl, (refl, tt))))))))))))
 
 pub drafts_computed : AllDraft draft_table
 unfolding computing

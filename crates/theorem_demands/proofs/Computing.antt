@@ -6,7 +6,6 @@
 --   place_open, plan_open, send_open, retire_open     the plain machine: placing, plan, send and clock, retire
 --   table_open       tables
 --   board_open       the abstract board, from the fresh one on;  tidy_open: its tidy runs
---   settings_open    the ruling on settings
 --   computing       all of these
 use Rattle.base_rulings.specs.Order.{first_refusal}
 use Rattle.base_words.specs.Word.{word}
@@ -77,10 +76,6 @@ table_open = tt
 unfoldable pub board_open : Unit {0}
 unfolding Rulebook.empty_lines Rulebook.fresh Model.fresh refused_with settled decided heard departed step
 board_open = tt
-
-unfoldable pub settings_open : Unit {0}
-unfolding Rulebook.bad_settings Rulebook.settings_ruling
-settings_open = tt
 
 unfoldable pub tidy_open : Unit {0}
 unfolding build tidy tidied board_after rulings

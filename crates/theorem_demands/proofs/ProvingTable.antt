@@ -1,7 +1,7 @@
 -- The proving table holds: one theorem over one table (specs/ProvingTable), from bytes, of the rule book and the fact definition.
 -- Its test is computed over the whole table on the abstract board (proofs/Computed), and one law turns it into what each case says: that the
 -- rule book has such a run, and that every run of it comes to the same. Assumes nothing.
---   proving_table   document 01's cases;  further_table_lem: cases of our own;  due_table_lem: those on due times;  tray_table_lem: those on the tray gap
+--   proving_table   document 01's cases;  further_table_lem: cases of our own;  due_table_lem: those on due times
 use mathlib.Core.List.{List, [], ◌∷◌}
 use borrow.Author.Tests.{leb-true}
 use Rattle.spec_stn.specs.Table.{bias}
@@ -12,10 +12,9 @@ use Rattle.theorem_demands.specs.Cases.{Case, AllMeet, Comes, AllCome}
 use Rattle.theorem_demands.specs.ProvingTable.{table}
 use Rattle.theorem_demands.specs.FurtherTable.{further_table}
 use Rattle.theorem_demands.specs.DueTable.{due_table}
-use Rattle.theorem_demands.specs.TrayTable.{tray_table}
 use Rattle.theorem_demands.proofs.Tidy.{fresh_runs}
 use Rattle.theorem_demands.proofs.Shown.{all_meet}
-use Rattle.theorem_demands.proofs.Computed.{Computes, AllCompute, computed, further_computed, dues_computed, trays_computed}
+use Rattle.theorem_demands.proofs.Computed.{Computes, AllCompute, computed, further_computed, dues_computed}
 
 comes : (c : Case) → Computes c → Comes c
 comes c e =
@@ -35,6 +34,3 @@ further_table_lem = all_come further_table further_computed
 
 pub due_table_lem : AllCome due_table
 due_table_lem = all_come due_table dues_computed
-
-pub tray_table_lem : AllCome tray_table
-tray_table_lem = all_come tray_table trays_computed

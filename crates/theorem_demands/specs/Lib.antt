@@ -6,7 +6,6 @@ pub mod Cases
 pub mod ProvingTable
 pub mod FurtherTable
 pub mod DueTable
-pub mod TrayTable
 pub mod ReadingTable
 pub mod WritingTable
 pub mod Shown

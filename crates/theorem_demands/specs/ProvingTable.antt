@@ -2,7 +2,7 @@
 --   plant         "A0 needs fact 0, makes 1 true and 0 false, 10 to 20 ms, resource 0, offset 0, length 10. A1 needs 1, makes 2 true and
 --                 1 false, 5 to 5. A2 needs 3, makes none, 1 to 1. It has 120 bytes, index at 96."
 --   job_j b place  "Job J: fact 0 known true, goal fact 2 true, A0 A1", in batch b, with this place; like all offers here without a due time
---   settings_from  a board's H and D;  usual: a case on the usual board. The tray gap of these is 0: "With gap 0 the old cases hold" (document 02, Note 4)
+--   settings_from  a board's H and D;  usual: a case on the usual board
 --   table         document 01's cases; cases of our own, for what those do not show: FurtherTable
 -- Point 0 is the origin; where the first job is J, its points are 1, 2, 3, and the second job's start is 4.
 use Rattle.std.specs.Prelude.{List, [], ◌∷◌, ◌++◌, ℕ}
@@ -60,9 +60,9 @@ offer_e = u32s (0 ∷ fact0 ∷ 0 ∷ 0 ∷ fact0 ∷ 1 ∷ 0 ∷ []) ++ u32s (0
 abbrev pub offer_m : ℕ → List ℕ
 offer_m b = u32s (b ∷ fact3 ∷ 0 ∷ fact3 ∷ 0 ∷ 1 ∷ 0 ∷ []) ++ u32s (2 ∷ [])
 
--- a board's H and D, without a tray gap
+-- a board's H and D
 abbrev pub settings_from : ℕ → ℕ → Settings
-settings_from H D = record { horizon = H; lead = D; gap = 0 }
+settings_from H D = record { horizon = H; lead = D }
 
 -- "H = 1000, D = 5 unless said"
 abbrev pub usual : List Call → List Ruling → List Expect → Case

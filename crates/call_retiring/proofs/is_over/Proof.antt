@@ -8,17 +8,15 @@ use Rattle.spec_stn.specs.Table.{entails_all}
 use Rattle.part_gaps.specs.Cells.{table_of}
 use Rattle.call_retiring.specs.Ending.{InReach}
 use Rattle.part_boardwords.specs.Layout.{clock_at}
-use Rattle.part_boardwords.specs.Words.{word_in, settings_read, lines_read}
-use Rattle.part_boardwords.proofs.Lent.{lent_table, cells_lent}
+use Rattle.part_boardwords.specs.Words.{word_in, lines_read}
+use Rattle.part_boardwords.proofs.Lent.{cells_lent}
 use Rattle.call_retiring.proofs.Retired.{ends}
 use Rattle.call_retiring.proofs.is_over.Statement.{statement}
 use Rattle.call_retiring.proofs.is_over.Tie as tie
 
 are-over-requires : tie.Need-are-over-requires
-are-over-requires c κs = let read : tie.After-settings-in = search in let entry : tie.Start = search in
-    let A = entry.args in let P = entry.pre in let W = A.w.now in
-    let lent = subst (λ (l : List ℕ). InReach (settings_read (word_in W)) l (word_in W clock_at) 1 A.m) (sym (cells_lent W P.0)) P.1.0 in
-    let reach = subst (λ (s : Settings). InReach s (lent_table W) (word_in W clock_at) 1 A.m) (sym read.settings-in.ensures) lent in
+are-over-requires c κs = let entry : tie.Start = search in let A = entry.args in let P = entry.pre in let W = A.w.now in
+    let reach = subst (λ (l : List ℕ). InReach l (word_in W clock_at) 1 A.m) (sym (cells_lent W P.0)) P.1.0 in
     (reach, P.1.1, (search rules), P.1.2)
 
 returns : tie.Need-returns

@@ -20,10 +20,6 @@ put-picture-requires c κs = let scaled : tie.After-scale-of = search in
       scaled.scale_of.ensures.1,
     )
 
-put-trays-requires : tie.Need-put-trays-requires
-put-trays-requires c κs = let scaled : tie.After-scale-of = search in let entry : tie.Start = search in let sound = entry.pre.2 in
-    (entry.pre.1, omega arith, record { count = sound.jobs; points = sound.points }, scaled.scale_of.ensures.1)
-
 put-windows-requires : tie.Need-put-windows-requires
 put-windows-requires c κs = let entry : tie.Start = search in let sound = entry.pre.2 in
     ((entry.pre.1, omega arith), (record { count = sound.jobs; points = sound.points }, sound.sizes))
@@ -32,5 +28,5 @@ pub put_shown_spec : {M : Type 1} → statement M
 put_shown_spec =
     tie.close
     (tie.spec
-    (λ c. search rules) scale-of-requires (λ c κs. search rules) put-picture-requires put-trays-requires put-windows-requires
+    (λ c. search rules) scale-of-requires (λ c. search rules) (λ c κs. search rules) put-picture-requires put-windows-requires
     (λ c. search rules) (λ c. search rules))

@@ -58,7 +58,7 @@ is-gap-table-requires : tie.Need-is-gap-table-requires
 is-gap-table-requires c κs = let entry : tie.Start = search in
     let w = word_in entry.args.w.now in
     let jobs = jobs_sized (w horizon_at) (held_jobs w) entry.pre.1.1 in
-    (entry.pre.0.1, omega (arith, jobs.points), (numbers_to (settings_read w) (w clock_at) entry.pre.1.0).0.horizon.1)
+    (entry.pre.0.1, omega (arith, jobs.points), (numbers_to (settings_read w) (w clock_at) entry.pre.1.0).0.1)
 
 returns-3 : tie.Need-returns-3
 unfolding clauses_kept

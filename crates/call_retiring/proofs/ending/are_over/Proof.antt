@@ -13,7 +13,7 @@ use Rattle.call_retiring.proofs.ending.are_over.Tie as tie
 add-if1-2 : tie.Need-overflow-add-if1-2
 add-if1-2 c = let entry : tie.Start = search in let A = entry.args in
     let last = A.f + A.m - 1 in
-    omega (arith, origin_row A.t.now last, entry.pre.0.bounded last (omega arith), entry.pre.0.tray_gap_lem)
+    omega (arith, origin_row A.t.now last, entry.pre.0.bounded last (omega arith))
 
 returns : tie.Need-returns
 returns c = let entry : tie.Start = search in

@@ -4,14 +4,14 @@ use mathlib.Core.Path.{◌≡◌, refl}
 use native.Mathlib.Omega.{arith}
 use lib.ListN.{length, length-set}
 use borrow.Author.Rules.{rules}
-use Rattle.log_text.proofs.line.read_numbers.Statement.{statement}
-use Rattle.log_text.proofs.line.read_numbers.Tie as tie
+use Rattle.log_writing.proofs.reading.read_numbers.Statement.{statement}
+use Rattle.log_writing.proofs.reading.read_numbers.Tie as tie
 
 abbrev invariant_loop : tie.invariant_loop
-invariant_loop words at w₀ n to₀ k₀ w to k = (k ≤ n) × (length w ≡ length w₀)
+invariant_loop words at w₀ from n to₀ k₀ w to k = (k ≤ n) × (length w ≡ length w₀)
 
 abbrev decreases_loop : tie.decreases_loop
-decreases_loop words at w₀ n to₀ k₀ w to k = n - k
+decreases_loop words at w₀ from n to₀ k₀ w to k = n - k
 
 loop-holds : tie.Need-loop-init invariant_loop decreases_loop
 loop-holds c = (omega arith, refl)
@@ -24,5 +24,5 @@ read_numbers_spec =
     tie.close
     (tie.spec
     invariant_loop decreases_loop loop-holds (λ c. omega arith) (λ c. tt) (λ c κs. tt) (λ c. search rules) (λ c. search rules) (λ c. omega arith) (λ c. tt)
-    (λ c. omega arith) (λ c. omega arith) (λ c κs. tt) (λ c. omega arith) (λ c. omega arith) loop-again (λ c. omega arith)
+    (λ c. omega arith) (λ c. omega arith) (λ c. omega arith) (λ c κs. tt) (λ c. omega arith) (λ c. omega arith) loop-again (λ c. omega arith)
     (λ c. tt))
