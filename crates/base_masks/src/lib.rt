@@ -1,5 +1,7 @@
 // Sets of facts in a u32: bit k stands for fact k (document 01: "one bit per fact, bit 0 for fact 0").
 // It may use no other crate.
+#![tactic(auto)]
+
 ghost use Rattle.std.specs.Prelude.{◌≡◌};
 ghost use Rattle.base_masks.specs.Mask.{share, join, strike, lowest};
 

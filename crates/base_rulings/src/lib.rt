@@ -1,5 +1,7 @@
 // A ruling is accepted, or refused with a cause: what every call answers, and the number and value that document 01 gives to each cause.
 // It may use no other crate.
+#![tactic(auto)]
+
 ghost use Rattle.std.specs.Prelude.{◌≡◌};
 ghost use Rattle.base_rulings.specs.Answer.{number_of, is_valued, value_of};
 ghost use Rattle.base_rulings.specs.Order.{refusal_of};

@@ -1,5 +1,7 @@
 // Numbers in byte slices, for all that reads bytes. Document 01: "All fields are u32, low byte first."
 // It may use no other crate.
+#![tactic(auto)]
+
 ghost use Rattle.std.specs.Prelude.{◌≡◌, ◌+◌, ◌*◌, ◌≤◌, ◌<◌, ◌^◌, length, get_or};
 ghost use Rattle.base_words.specs.Word.{word};
 

@@ -1,5 +1,7 @@
 // The board's calls from C (include/snipefeather.h), on a board that is lent as its words, and the writing of plant files: each is the call that the
 // programs make, and its answer as a number. It may use the calls, write_plant and part_boardwords, and decides nothing.
+#![tactic(auto)]
+
 ghost use Rattle.std.specs.Prelude.{◌≡◌, length, set};
 ghost use Rattle.base_rulings.specs.Answer.{number_of, value_of};
 ghost use Rattle.part_boardwords.specs.Words.{lent_board};

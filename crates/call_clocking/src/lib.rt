@@ -1,6 +1,8 @@
 // Moves the clock of a board that is lent as its words. An accepted call
 // leaves the words of the board after it, and a refused one the words that came. Words that stand for no sound board are refused with 6.
 // It may use call_board (definitions and laws) and the parts of the board; it reads no plant file and no offer.
+#![tactic(auto)]
+
 ghost use Rattle.std.specs.Prelude.{◌≡◌, true, ◌≤◌, length};
 ghost use Rattle.part_boardwords.specs.Layout.{clock_at, board_size};
 ghost use Rattle.part_boardwords.specs.Words.{word_in, settings_read, board_in, lent_board};

@@ -2,6 +2,8 @@
 // Nothing but the table is written before the last test, and that is put back where it fails. An accepted plan leaves the words of the board after it,
 // and a refused one the words that came.
 // It may use call_board (definitions and laws), the readers and the parts of the board.
+#![tactic(auto)]
+
 ghost use Rattle.std.specs.Prelude.{◌≡◌, true, ◌≤◌, length};
 ghost use Rattle.base_rulings.specs.declared.Ruling.TheVariants.{Accepted};
 ghost use Rattle.read_plant.specs.Plant.{plant_ruling, trailer_of};

@@ -7,6 +7,8 @@
 //
 // `report_into` is the report for callers that are to be covered: an array comes in and goes out by value, and the front of it is the list.
 // It may use part_sound, part_gaps, part_boardwords and part_jobwords; it changes no board.
+#![tactic(auto)]
+
 ghost use Rattle.std.specs.Prelude.{◌≡◌, true, ◌+◌, ◌≤◌, ◌<◌, min, length, take};
 ghost use Rattle.spec_plain.specs.Limits.{most_jobs, most_points};
 ghost use Rattle.base_rulings.specs.declared.Ruling.TheVariants.{Refused};

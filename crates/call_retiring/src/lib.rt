@@ -1,6 +1,8 @@
 // Retires the oldest job of a board that is lent as its words: it leaves the list, the lines and the table. An accepted call
 // leaves the words of the board after it, and a refused one the words that came. Words that stand for no sound board are refused with 6.
 // It may use call_board (definitions and laws) and the parts of the board; it reads no plant file and no offer.
+#![tactic(auto)]
+
 mod ending; // whether points that leave are over by the clock
 
 ghost use Rattle.std.specs.Prelude.{◌≡◌, true, ◌∷◌, ◌+◌, ◌-◌, ◌≤◌, length};

@@ -1,6 +1,8 @@
 // Sends jobs of a board that is lent as its words: their points are set to their earliest times. An accepted call
 // leaves the words of the board after it, and a refused one the words that came. Words that stand for no sound board are refused with 6.
 // It may use call_board (definitions and laws) and the parts of the board; it reads no plant file and no offer.
+#![tactic(auto)]
+
 ghost use Rattle.std.specs.Prelude.{◌≡◌, true, ◌≤◌, length};
 ghost use Rattle.spec_plain.specs.Limits.{most_jobs};
 ghost use Rattle.spec_plain.specs.Plain.{unsent_at};

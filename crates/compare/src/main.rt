@@ -1,6 +1,8 @@
 // Compares the boards that two logs end with: `compare FILE FILE` replays both and says whether the gap tables are equal in every entry,
 // which is whether the same timetables are possible on both boards.
 // It may use log_session and what it shows, log_tables and call_report, and decides nothing of a call.
+#![tactic(auto)]
+
 mod meaning; // what an entry that differs means
 
 use libc::STDOUT_FILENO;

@@ -1,5 +1,7 @@
 // The fact check as the search calls it, from C (include/snipefeather.h). It may use read_offer and base_rulings alone, so that a search that only
 // checks facts links nothing of the board.
+#![tactic(auto)]
+
 ghost use Rattle.std.specs.Prelude.{◌≡◌};
 ghost use Rattle.base_rulings.specs.Answer.{number_of};
 ghost use Rattle.read_offer.specs.Offer.{fact_check};

@@ -1,6 +1,8 @@
 // What a log shows of a board: its gap table, and all else. The board is lent as its words, and any number may stand in them, so that each
 // count is taken as no more than there are places for. It may use log_text, part_boardwords and the structs of its parts (spec_plain), and the bias of a
 // board's cells (part_gaps).
+#![tactic(auto)]
+
 ghost use Rattle.std.specs.Prelude.{◌≤◌, ◌<◌, ◌≡◌, length};
 ghost use Rattle.spec_plain.specs.Limits.{side, most_jobs, most_points, most_uses};
 ghost use Rattle.part_boardwords.specs.Layout.{board_size, line_end};

@@ -6,6 +6,8 @@
 //
 // It may use the product's calls and what reads their arguments and writes their answers as text. Files and standard
 // output are for the programs.
+#![tactic(auto)]
+
 mod answers;
 mod boards; // the calls on the board
 mod faults;

@@ -1,6 +1,8 @@
 // A picture of a board in text: a row for each resource that is in use, time from left to right, each use drawn at its earliest time with
 // its job's mark, the clock, and for each job its windows, due time and batch. The picture is at most 93 columns wide, a job's row at most 102.
 // The board is lent as its words. It may use log_text, and of the board what it shows.
+#![tactic(auto)]
+
 mod rows; // the axis, the clock and the rows of resources
 mod scale; // which times the picture shows, and how wide a column is
 mod uses; // when a use is under way, and whose it is

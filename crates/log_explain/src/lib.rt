@@ -1,5 +1,7 @@
 // What a refusal means, in words. They are those of the first table of docs/REFUSALS.md, so that an operator need not look the number up.
 // It may use log_text and base_rulings.
+#![tactic(auto)]
+
 use base_rulings::{Cause, Ruling, is_valued, number, value};
 use log_text::{put, put_number};
 

@@ -2,6 +2,8 @@
 // takes the same memory: the buffer is written to standard output whenever it holds much, and what waits at the end is left to the program. So is
 // the last board, in the words that the program lends for it.
 // It may use log_calls and log_explain, and of the kit io, os and libc.
+#![tactic(auto)]
+
 mod input;
 
 ghost use Rattle.std.specs.Prelude.{◌≤◌};

@@ -1,6 +1,8 @@
 // Two boards compared by their gap tables: by demand 3 the same timetables are possible on both exactly when the tables are equal. A board
 // that is not sound stands for no timetables and is not compared. Each board is lent as its words.
 // It may use base_lists, part_gaps, part_boardwords, part_jobwords and part_sound; equal is demand 3's equal.
+#![tactic(auto)]
+
 mod showing; // where they differ: how many entries, and a timetable of one that is none of the other
 
 ghost use Rattle.std.specs.Prelude.{◌≡◌, true, length};

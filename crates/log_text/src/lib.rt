@@ -3,6 +3,8 @@
 // It may use base_lists, the kit's `bytes` and, of `io`, the spelling of numbers: nothing here reads or writes a file. No public
 // function has a `requires`: a place past the end of a buffer counts as its end, and bytes for which there is no room
 // are left out.
+#![tactic(auto)]
+
 mod hex;
 mod number;
 mod output;

@@ -1,6 +1,8 @@
 // The line of a log that writes a plant file: its numbers, the call, and the text of its answer. A buffer that holds a pattern is lent to the call: where a
 // byte past the file does not hold it any more, or any byte after a refusal, the call wrote what it should not.
 // It may use write_plant, base_rulings and log_text.
+#![tactic(auto)]
+
 mod reading; // the numbers of a line
 
 ghost use Rattle.std.specs.Prelude.{◌≡◌, ◌≤◌, ◌*◌, length};

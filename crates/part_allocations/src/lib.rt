@@ -1,5 +1,7 @@
 // An offer's allocations as words, five each: resource, place, step, offset, length; and the use that each of them makes.
 // It may use spec_plain, part_lines (definitions) and base_lists, and rules on nothing.
+#![tactic(auto)]
+
 mod using; // the use of an allocation
 
 ghost use Rattle.std.specs.Prelude.{◌≡◌, [], ◌∷◌, ◌++◌, ◌+◌, ◌*◌, ◌≤◌, length};

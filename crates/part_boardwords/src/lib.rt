@@ -1,6 +1,8 @@
 // A board's words: BOARD_WORDS of them, in the order of specs/Words. Words come from outside and may be any: whether the board is sound is for the
 // board's calls to say.
 // It may use base_lists and the structs of jobs and lines (spec_plain, part_lines), and rules on nothing.
+#![tactic(auto)]
+
 pub mod layout; // where each word stands
 mod making; // a job before it stands in words
 mod moving; // jobs and uses moved by one place

@@ -3,6 +3,8 @@
 //
 // Every function takes the table as a slice, of 4225 cells. What it requires beside that keeps sums within 32 bits.
 // It may use spec_stn, base_lists and spec_plain; no board is known here.
+#![tactic(auto)]
+
 mod adding; // a rule added, and whether it agrees
 mod copying; // cells copied
 mod dropping; // points dropped

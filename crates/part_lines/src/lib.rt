@@ -1,6 +1,8 @@
 // The structs of jobs, lines, steps and rules; rules collected, and a use that stays or goes, by value: the plain machine's code but for jobs
 // and lines, which are changed in words (crates part_jobwords and part_linewords).
 // It may use spec_plain and base_rulings; it knows neither bytes nor a table.
+#![tactic(auto)]
+
 mod joblist; // the list of jobs
 mod leaving; // what stays when points leave
 mod rulelist; // the list of rules

@@ -1,6 +1,8 @@
 // The offer as the plain machine takes it: the durations of its steps, and its allocations with their places, copied out of the bytes of
 // a good plant file and a good offer. It rules on nothing. It may use the readers (base_words, base_rulings, read_plant, read_offer), spec_plain,
 // the rule book's definition of what an offer says, the array of steps (part_lines), allocations as words (part_allocations) and base_lists.
+#![tactic(auto)]
+
 ghost use Rattle.std.specs.Prelude.{◌≡◌, ◌++◌, ◌+◌, ◌*◌, ◌≤◌, length};
 ghost use Rattle.base_rulings.specs.declared.Ruling.TheVariants.{Accepted};
 ghost use Rattle.read_plant.specs.Plant.{plant_ruling, trailer_of, shortest, longest};

@@ -1,5 +1,7 @@
 // Rules settled on a gap table, where it lies: tried one after the other, or points set to their earliest times.
 // It may use part_gaps, spec_stn, base_lists, part_lines and spec_plain; it rules on nothing.
+#![tactic(auto)]
+
 mod freezing; // points set equal to their earliest times
 
 ghost use Rattle.std.specs.Prelude.{◌≡◌, false, ℕ, ◌+◌, ◌*◌, ◌≤◌, ◌<◌, length, get_or};

@@ -3,6 +3,8 @@
 //
 // Each function is one clause of the test in specs/Sound, or a row of them, on the words of the board where they lie.
 // It may use part_gaptest, part_gaps, spec_stn, base_lists, part_lines, spec_plain, part_boardwords and part_jobwords, and rules on soundness alone.
+#![tactic(auto)]
+
 mod lining; // the lines
 mod sent; // the jobs that were sent
 mod sizing; // numbers and jobs

@@ -1,5 +1,7 @@
 // The fact check on a chain: what must hold is worked back from the goal to the start (regression). The definition that it is held to runs
 // forward (specs/Forward). It may use base_masks and base_rulings, and knows nothing of bytes.
+#![tactic(auto)]
+
 ghost use Rattle.std.specs.Prelude.{◌≡◌};
 ghost use Rattle.read_facts.specs.Regression.{undoes, regressed, back_over, lacking, at_start};
 

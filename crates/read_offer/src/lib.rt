@@ -1,5 +1,7 @@
 // The offer: refusals 7 to 10, and the fact check of the chain that it names. The bytes may be any.
 // It may use base_words, base_masks, base_rulings, read_plant and read_facts; it knows of no board.
+#![tactic(auto)]
+
 ghost use Rattle.std.specs.Prelude.{◌≡◌, ◌+◌, ◌*◌, ◌≤◌, ◌<◌, length};
 ghost use Rattle.read_plant.specs.Plant.{plant_ruling, trailer_of};
 ghost use Rattle.read_facts.specs.Regression.{work_back};

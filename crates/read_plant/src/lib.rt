@@ -1,4 +1,6 @@
 // The plant file, of any bytes: refusals 1 to 4, and the part that holds an action's allocations. It may use base_words, base_masks and base_rulings.
+#![tactic(auto)]
+
 ghost use Rattle.std.specs.Prelude.{◌≡◌, false, cond, not, ◌&&◌, ◌||◌, ◌+◌, ◌-◌, ◌*◌, ◌/◌, ◌%◌, ◌≤◌, ◌<◌, ◌^◌, length, eqb, ltb};
 ghost use Rattle.base_masks.specs.Mask.{share};
 ghost use Rattle.read_plant.specs.Plant.{is_mark, trailer_of, bad_layout, bad_head, bad_record, bad_duration, out_of_range, bad_allocation};

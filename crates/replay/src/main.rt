@@ -2,6 +2,8 @@
 // writes the answers to standard output. With --explain each refusal is followed by its meaning in words; with --chart a picture of the
 // last board ends the output, where no error has ended the log.
 // It may use log_session and what it shows, and decides nothing of a call.
+#![tactic(auto)]
+
 mod arguments;
 
 use arguments::{Arguments, is_faulty, read_arguments, write_fault};

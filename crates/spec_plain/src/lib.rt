@@ -1,5 +1,7 @@
 // Settings, jobs, uses and rules: what rule book and board are made of. The plain machine (specs/Plain) is definitions over these; its code is the
 // crates part_lines, part_linewords, part_jobwords and part_drafts. It may use base_rulings alone: neither bytes nor a table.
+#![tactic(auto)]
+
 pub mod limits; // how much a board holds
 
 // What a board is made with: its horizon H, the latest time of a point, and its lead D, how long after the clock a job starts at the earliest.

@@ -2,3 +2,4 @@
 // (proofs/). Nothing in it is run.
 // It may use the readers' definitions, spec_plain, spec_rulebook, base_lists and spec_stn, and none of the
 // board's code: so a wrong definition meets the proving table.
+#![tactic(auto)]

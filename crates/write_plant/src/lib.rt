@@ -1,5 +1,7 @@
 // Plant files written, of actions lent as words: refusals 2, 3, 4 and 22, and the file in a lent buffer. It may use base_words, base_masks, base_rulings,
 // base_lists and read_plant.
+#![tactic(auto)]
+
 mod filing; // the parts of a file, put into a buffer
 mod ruling; // which actions are refused, and where their records end
 
