@@ -7,7 +7,7 @@ ghost use Rattle.base_rulings.specs.Answer.{number_of, is_valued, value_of};
 ghost use Rattle.base_rulings.specs.Order.{refusal_of};
 
 // A refusal's number, with the action, step, fact or allocation that it speaks of.
-#[derive(Drop)]
+#[derive(Clone, Copy)]
 pub enum Cause {
     Plain(u32),
     Action(u32, u32),
@@ -16,14 +16,14 @@ pub enum Cause {
     Allocation(u32, u32),
 }
 
-#[derive(Drop)]
+#[derive(Clone, Copy)]
 pub enum Ruling {
     Accepted,
     Refused(Cause),
 }
 
 // What reading one record of a file finds: where it ends, or the cause that ends the reading.
-#[derive(Drop)]
+#[derive(Clone, Copy)]
 pub enum Record {
     Ends(usize),
     Fails(Cause),

@@ -28,7 +28,7 @@ use spec_plain::limits;
 
 // A point's row: its job's place, its place in the job, and its earliest and latest times.
 #[repr(C)]
-#[derive(Drop)]
+#[derive(Clone, Copy)]
 pub struct Row {
     pub job: u32,
     pub point: u32,
@@ -37,21 +37,21 @@ pub struct Row {
 }
 
 // The answer to a report into an array: the ruling, and the array after it.
-#[derive(Drop)]
+#[derive(Clone, Copy)]
 pub struct Reported {
     pub ruling: Ruling,
     pub rows: [Row; limits::MOST_POINTS],
 }
 
 // What a report comes to before a row is stored: the ruling, and how many rows are to be stored.
-#[derive(Drop)]
+#[derive(Clone, Copy)]
 struct Asked {
     ruling: Ruling,
     stores: usize,
 }
 
 // Where a row stands: its job's place, and its point's place in the job.
-#[derive(Drop)]
+#[derive(Clone, Copy)]
 struct Cursor {
     place: u32,
     point: u32,

@@ -9,7 +9,7 @@ use part_gaps::BIAS;
 use spec_plain::limits;
 
 // The first entry that differs: its row and column, and the cell of each board.
-#[derive(Drop)]
+#[derive(Clone, Copy)]
 pub struct Entry {
     pub row: u32,
     pub column: u32,

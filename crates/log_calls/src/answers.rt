@@ -11,7 +11,7 @@ use log_writing::put_file;
 use part_boardwords::BOARD_WORDS;
 use read_plant::allocations;
 
-#[derive(Drop)]
+#[derive(Clone, Copy)]
 pub enum Answer {
     // No text.
     Nothing,

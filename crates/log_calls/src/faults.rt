@@ -1,7 +1,7 @@
 // What ends a replay, and the words that say so.
 use log_text::{put, put_number};
 
-#[derive(Drop)]
+#[derive(Clone, Copy)]
 pub enum Fault {
     UnknownWord,
     MissingWord,

@@ -31,7 +31,7 @@ use vocabulary::{Word, arguments, word_of};
 pub const MOST_BYTES: usize = 16384;
 
 // What a line leaves: how many bytes the plant file has from now on, and the answer.
-#[derive(Drop)]
+#[derive(Clone, Copy)]
 pub struct Outcome {
     pub plant: usize,
     pub answer: Answer,

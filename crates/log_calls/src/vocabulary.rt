@@ -3,7 +3,7 @@ ghost use Rattle.log_calls.specs.Vocabulary.{Says};
 
 use check::same;
 
-#[derive(Drop)]
+#[derive(Clone, Copy)]
 pub enum Word {
     List,
     Plant,

@@ -18,7 +18,7 @@ const WIDTHS: [u64; 20] = [
 ];
 
 // The first time that the picture shows, the last that it has to show, and the width of a column.
-#[derive(Drop)]
+#[derive(Clone, Copy)]
 pub struct Scale {
     pub begin: u64,
     pub end: u64,

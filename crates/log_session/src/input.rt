@@ -5,7 +5,7 @@ use log_text::{find, least, put};
 
 // What taking a line found: a line of so many bytes, one for which there is no room, the end of the input, or
 // that the input cannot be read.
-#[derive(Drop)]
+#[derive(Clone, Copy)]
 pub enum Found {
     Whole(usize),
     TooLong,
@@ -14,7 +14,7 @@ pub enum Found {
 }
 
 // The line, and the bytes of the chunk that are left for the next one: those from `from` on, before `to`.
-#[derive(Drop)]
+#[derive(Clone, Copy)]
 pub struct Taken {
     pub line: Found,
     pub from: usize,
@@ -22,7 +22,7 @@ pub struct Taken {
 }
 
 // The bytes of a chunk that are there to use, none where the input has ended or the read failed.
-#[derive(Drop)]
+#[derive(Clone, Copy)]
 pub struct Chunk {
     pub from: usize,
     pub to: usize,

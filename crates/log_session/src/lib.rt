@@ -22,7 +22,7 @@ pub const ROOM: usize = 131072;
 const FULL: usize = 65536;
 
 // What a program asks of a replay.
-#[derive(Drop)]
+#[derive(Clone, Copy)]
 pub struct Options {
     // The answers are put into the buffer. Else it gets nothing but the line of the error that ended the log.
     pub shown: bool,
@@ -32,7 +32,7 @@ pub struct Options {
 
 // Where a replay stands, beside its board: how many bytes the plant file has, how many bytes of output wait, whether it goes on, and whether
 // an error ended it.
-#[derive(Drop)]
+#[derive(Clone, Copy)]
 pub struct State {
     pub plant: usize,
     pub waiting: usize,

@@ -18,7 +18,7 @@ use part_sound::is_sound;
 pub use showing::{Which, count_differences, witness_on, witness_time};
 use spec_plain::limits;
 
-#[derive(Drop)]
+#[derive(Clone, Copy)]
 pub enum Compared {
     // The first board is not sound, or the second.
     FirstUnsound,

@@ -9,7 +9,7 @@ use part_sound::is_sound;
 use spec_plain::limits;
 
 // One of the two boards.
-#[derive(Drop)]
+#[derive(Clone, Copy)]
 pub enum Which {
     First,
     Second,

@@ -8,7 +8,7 @@ use crate::output::put;
 use crate::search::least;
 
 // What a word says as hex: so many bytes, or what is wrong with it.
-#[derive(Drop)]
+#[derive(Clone, Copy)]
 pub enum Decoded {
     Bytes(usize),
     Empty,

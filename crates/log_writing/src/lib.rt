@@ -26,7 +26,7 @@ const PATTERN: u8 = 0xA5;
 const PAST: u32 = 0xFFFFFFFF;
 
 // What a line comes to: the length of the file, a refusal, or what is wrong with the line or with the call.
-#[derive(Drop)]
+#[derive(Clone, Copy)]
 pub enum Made {
     File(usize),
     Refused(Ruling),

@@ -5,7 +5,7 @@ use log_text::{Number, find, least, read_number};
 use write_plant::ACTION_WORDS;
 
 // What reading numbers finds: the place of the next word, or what is wrong.
-#[derive(Drop)]
+#[derive(Clone, Copy)]
 pub enum Read {
     At(usize),
     Missing,

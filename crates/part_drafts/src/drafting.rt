@@ -19,7 +19,7 @@ use part_lines::{Rules, Steps, add_durations, no_rules, not_before, push};
 use spec_plain::Settings;
 
 // Where refused, the rules are not looked at.
-#[derive(Drop)]
+#[derive(Clone, Copy)]
 pub struct Drafted {
     pub ruling: Ruling,
     pub rules: Rules,

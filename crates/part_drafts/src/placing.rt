@@ -19,14 +19,14 @@ use part_lines::{Maybe, Rules, in_order, no_rule, one_rule};
 use spec_plain::{Allocation, Settings, limits};
 
 // How far placing came: the rules so far, and why it stopped, if it did.
-#[derive(Drop)]
+#[derive(Clone, Copy)]
 pub struct Placing {
     pub ruling: Ruling,
     pub rules: Rules,
 }
 
 // How one allocation went: the rules with the uses before and after it, and why it was stopped, if it was.
-#[derive(Drop)]
+#[derive(Clone, Copy)]
 pub struct Placement {
     pub ruling: Ruling,
     pub before: Maybe,

@@ -16,21 +16,21 @@ pub use rulelist::{
 use spec_plain::{Job, Step, Use, limits};
 
 // The jobs of a board, oldest first.
-#[derive(Drop)]
+#[derive(Clone, Copy)]
 pub struct Jobs {
     pub count: usize,
     pub jobs: [Job; limits::MOST_JOBS],
 }
 
 // The line of a resource: its uses in their order.
-#[derive(Drop)]
+#[derive(Clone, Copy)]
 pub struct Line {
     pub count: usize,
     pub uses: [Use; limits::MOST_USES],
 }
 
 // The steps of an offer.
-#[derive(Drop)]
+#[derive(Clone, Copy)]
 pub struct Steps {
     pub count: usize,
     pub steps: [Step; limits::MOST_STEPS],

@@ -14,7 +14,7 @@ use spec_plain::{Rule, Settings, Step, Use, limits};
 pub const MOST_RULES: usize = 1 + 2 * limits::MOST_STEPS + 2 * limits::MOST_ALLOCATIONS + 2;
 
 // The rules that one call makes.
-#[derive(Drop)]
+#[derive(Clone, Copy)]
 pub struct Rules {
     pub count: usize,
     pub rules: [Rule; MOST_RULES],
@@ -33,7 +33,7 @@ pub fn no_rules() -> Rules
 
 // A rule or none: how many there are, and the rule. It is stored behind the others in any case, 0 where there is none; so nothing is
 // tested in the loops that store, and the list of rules goes into no call.
-#[derive(Drop)]
+#[derive(Clone, Copy)]
 pub struct Maybe {
     pub count: usize,
     pub rule: Rule,

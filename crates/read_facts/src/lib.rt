@@ -10,21 +10,21 @@ use base_rulings::{Cause, Ruling};
 
 // Facts that are true (pos) and facts that are false (neg). Document 01 writes them as two masks: known-true and
 // known-false, goal-true and goal-false, needs-true and needs-false, makes-true and makes-false.
-#[derive(Drop)]
+#[derive(Clone, Copy)]
 pub struct Literals {
     pub pos: u32,
     pub neg: u32,
 }
 
 // What an action needs and what it makes.
-#[derive(Drop)]
+#[derive(Clone, Copy)]
 pub struct Action {
     pub needs: Literals,
     pub makes: Literals,
 }
 
 // What must hold at a place in the chain, or why nothing will do there.
-#[derive(Drop)]
+#[derive(Clone, Copy)]
 pub enum Need {
     Facts(Literals),
     Clash(Cause),

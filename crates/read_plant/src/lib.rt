@@ -18,7 +18,7 @@ use base_words::{byte_at, offset_at, u32_at};
 pub const MARK: [u8; 4] = *b"PLNT";
 
 // What a plant file ends with, the mark aside: where its index starts, and how many actions it has.
-#[derive(Drop)]
+#[derive(Clone, Copy)]
 pub struct Trailer {
     pub index: usize,
     pub count: u32,

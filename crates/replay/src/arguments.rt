@@ -3,7 +3,7 @@ use check::same;
 use libc::STDOUT_FILENO;
 
 // What is asked: the options, the number of the argument that names the file (0 for standard input), and what is wrong.
-#[derive(Drop)]
+#[derive(Clone, Copy)]
 pub struct Arguments {
     pub explain: bool,
     pub chart: bool,
@@ -11,7 +11,7 @@ pub struct Arguments {
     pub fault: Fault,
 }
 
-#[derive(Drop)]
+#[derive(Clone, Copy)]
 pub enum Fault {
     Nothing,
     Unknown,
@@ -19,7 +19,7 @@ pub enum Fault {
     BehindFile,
 }
 
-#[derive(Drop)]
+#[derive(Clone, Copy)]
 enum Word {
     Explain,
     Chart,

@@ -14,7 +14,7 @@ use base_rulings::{Cause, Record, Ruling, refusal};
 pub use ruling::ACTION_WORDS;
 
 // What writing a file came to: the ruling, and the file's length, 0 where refused.
-#[derive(Drop)]
+#[derive(Clone, Copy)]
 pub struct Filed {
     pub ruling: Ruling,
     pub length: usize,

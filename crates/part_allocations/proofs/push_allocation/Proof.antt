@@ -6,16 +6,16 @@ use Rattle.part_allocations.proofs.Pushed.{pushed}
 use Rattle.part_allocations.proofs.push_allocation.Statement.{statement}
 use Rattle.part_allocations.proofs.push_allocation.Tie as tie
 
-slice-write-allocations-2 : tie.Need-slice-write-allocations-2
+slice-write-allocations-2 : tie.Need-bounds-allocations-at-2
 slice-write-allocations-2 c = simp length-set (omega arith)
 
-slice-write-allocations-3 : tie.Need-slice-write-allocations-3
+slice-write-allocations-3 : tie.Need-bounds-allocations-at-3
 slice-write-allocations-3 c = simp length-set (omega arith)
 
-slice-write-allocations-4 : tie.Need-slice-write-allocations-4
+slice-write-allocations-4 : tie.Need-bounds-allocations-at-4
 slice-write-allocations-4 c = simp length-set (omega arith)
 
-slice-write-allocations-5 : tie.Need-slice-write-allocations-5
+slice-write-allocations-5 : tie.Need-bounds-allocations-at-5
 slice-write-allocations-5 c = simp length-set (omega arith)
 
 returns : tie.Need-returns

@@ -6,13 +6,13 @@ use borrow.Author.Rules.{rules}
 use Rattle.read_facts.proofs.at_start.Statement.{statement}
 use Rattle.read_facts.proofs.at_start.Tie as tie
 
-returns : tie.Need-returns
+returns : tie.Need-returns-then-lack-eq0
 unfolding at_start
-returns c = simp (← c.before.find-lacking.ensures, eq-eqb _ _ c.if1.true)
+returns c = simp (← c.find_lacking-lack.ensures, eq-eqb _ _ c.if-lack-eq0.true)
 
-returns-2 : tie.Need-returns-2
+returns-2 : tie.Need-returns
 unfolding at_start
-returns-2 c = simp (← c.before.before.find-lacking.ensures, ne_eqb _ _ c.before.if1.false, ← c.first.ensures)
+returns-2 c = simp (← c.find_lacking-lack.ensures, ne_eqb _ _ c.if-lack-eq0.false, ← c.first.ensures)
 
 pub at_start_spec : {M : Type 1} → statement M
 at_start_spec = tie.close (tie.spec (λ c κs. search rules) returns (λ c κs. search rules) returns-2)

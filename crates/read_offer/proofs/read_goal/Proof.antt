@@ -7,7 +7,7 @@ use Rattle.read_offer.proofs.read_goal.Tie as tie
 
 returns : tie.Need-returns
 unfolding goal_of
-returns c = simp (← c.before.u32-at.ensures, ← c.u32-at2.ensures)
+returns c = simp (← c.u32_at.ensures, ← c.u32_at-2.ensures)
 
 pub read_goal_spec : {M : Type 1} → statement M
 read_goal_spec = tie.close (tie.spec (λ c κs. search rules) (λ c κs. search rules) returns)

@@ -14,55 +14,55 @@ use lib.ListN.{length, length-set}
 use Rattle.read_offer.proofs.read_masks.Statement.{statement}
 use Rattle.read_offer.proofs.read_masks.Tie as tie
 
-abbrev invariant_loop : tie.invariant_loop
+abbrev invariant_loop : tie.invariant-loop-step
 invariant_loop plant t offer count masks₀ at₀ step₀ masks at step =
     (step ≤ count) × (count ≤ 8) × (at ≡ step_start plant offer step) × (length masks ≡ 32)
     × ((k : ℕ) → k < step → held_action masks k ≡ action_of plant (word offer (step_start plant offer k)))
 
-abbrev decreases_loop : tie.decreases_loop
+abbrev decreases_loop : tie.decreases-loop-step
 decreases_loop plant t offer count masks₀ at₀ step₀ masks at step = count - step
 
-loop-holds : tie.Need-loop-init invariant_loop decreases_loop
-loop-holds c = let few = (read_of _ _ c.before.before.requires.2).few in (omega arith, omega (arith, few), first_start _ _, refl, λ k h. absurd (omega arith))
+loop-holds : tie.Need-loop-step-init invariant_loop decreases_loop
+loop-holds c = let few = (read_of _ _ c.requires.2).few in (omega arith, omega (arith, few), first_start _ _, refl, λ k h. absurd (omega arith))
 
-u32-at-requires : tie.Need-u32-at-requires invariant_loop decreases_loop
+u32-at-requires : tie.Need-u32_at-requires invariant_loop decreases_loop
 u32-at-requires c κs = let entry : tie.Start invariant_loop decreases_loop = search in
-    let w = (here _ _ _ _ (omega arith) c.before.loop.invariant.2 entry.pre.2).whole in omega (arith, w)
+    let w = (here _ _ _ _ (omega arith) c.loop-step.invariant.2 entry.requires.2).whole in omega (arith, w)
 
-start-of-requires : tie.Need-start-of-requires invariant_loop decreases_loop
+start-of-requires : tie.Need-start_of-start-requires invariant_loop decreases_loop
 start-of-requires c κs = let entry : tie.Start invariant_loop decreases_loop = search in
-    let h = (here _ _ _ _ (omega arith) c.before.before.loop.invariant.2 entry.pre.2).known in
-    (entry.pre.0, entry.pre.1, known_in _ _ _ _ _ c.u32-at.ensures entry.pre.1 h)
+    let h = (here _ _ _ _ (omega arith) c.loop-step.invariant.2 entry.requires.2).known in
+    (entry.requires.0, entry.requires.1, known_in _ _ _ _ _ c.u32_at.ensures entry.requires.1 h)
 
-add_at : tie.Need-overflow-add-at invariant_loop decreases_loop
-add_at c = let at-loop : tie.At-loop invariant_loop decreases_loop = search in let entry : tie.Start invariant_loop decreases_loop = search in
-    let w = (here _ _ _ _ (omega arith) at-loop.loop.inv.2 entry.pre.2).whole in omega (arith, w)
+add_at : tie.Need-overflow_add-at invariant_loop decreases_loop
+add_at c = let at-loop : tie.At-loop-step invariant_loop decreases_loop = search in let entry : tie.Start invariant_loop decreases_loop = search in
+    let w = (here _ _ _ _ (omega arith) at-loop.loop-step.invariant.2 entry.requires.2).whole in omega (arith, w)
 
-add-at-2 : tie.Need-overflow-add-at-2 invariant_loop decreases_loop
-add-at-2 c = let at-start-of : tie.After-start-of invariant_loop decreases_loop = search in let at-u32-at : tie.After-u32-at invariant_loop decreases_loop = search in
-    let at-loop : tie.At-loop invariant_loop decreases_loop = search in let entry : tie.Start invariant_loop decreases_loop = search in
-    let w = ends_within _ _ _ _ (omega arith) at-loop.loop.inv.2 _ _ _ at-u32-at.u32-at.ensures at-start-of.start_of_lem.ensures.0
-    c.byte_at.ensures.0 entry.pre.2 in omega (arith, w)
+add-at-2 : tie.Need-overflow_add-at-in-loop-step invariant_loop decreases_loop
+add-at-2 c = let at-start-of : tie.After-start_of-start invariant_loop decreases_loop = search in let at-u32-at : tie.After-u32_at invariant_loop decreases_loop = search in
+    let at-loop : tie.At-loop-step invariant_loop decreases_loop = search in let entry : tie.Start invariant_loop decreases_loop = search in
+    let w = ends_within _ _ _ _ (omega arith) at-loop.loop-step.invariant.2 _ _ _ at-u32-at.u32_at.ensures at-start-of.start_of-start.ensures.0
+    c.byte_at.ensures.0 entry.requires.2 in omega (arith, w)
 
-loop-again : tie.Need-loop-preserved invariant_loop decreases_loop
-loop-again c = let at-u32-at3 : tie.After-u32-at3 invariant_loop decreases_loop = search in let at-u32-at2 : tie.After-u32-at2 invariant_loop decreases_loop = search in
-    let at-start-of : tie.After-start-of invariant_loop decreases_loop = search in let at-u32-at : tie.After-u32-at invariant_loop decreases_loop = search in
-    let at-loop : tie.At-loop invariant_loop decreases_loop = search in let entry : tie.Start invariant_loop decreases_loop = search in let A = entry.args in
-    let L = at-loop.loop in
+loop-again : tie.Need-loop-step-preserved invariant_loop decreases_loop
+loop-again c = let at-u32-at3 : tie.After-u32_at-in-loop-step-2 invariant_loop decreases_loop = search in let at-u32-at2 : tie.After-u32_at-in-loop-step invariant_loop decreases_loop = search in
+    let at-start-of : tie.After-start_of-start invariant_loop decreases_loop = search in let at-u32-at : tie.After-u32_at invariant_loop decreases_loop = search in
+    let at-loop : tie.At-loop-step invariant_loop decreases_loop = search in let entry : tie.Start invariant_loop decreases_loop = search in let A = entry.args in
+    let L = at-loop.loop-step in
     let f : ℕ → Action = λ k. action_of A.plant.now (word A.offer.now (step_start A.plant.now A.offer.now k)) in
-    let next = next_at _ _ _ _ (omega arith) L.inv.2 _ _ _ at-u32-at.u32-at.ensures at-start-of.start_of_lem.ensures.0 c.byte_at.ensures.0 in
-    let this = action_is _ _ _ _ _ _ _ at-start-of.start_of_lem.ensures.0 at-u32-at2.u32-at2.ensures at-u32-at3.u32-at3.ensures
-    c.before.before.u32-at4.ensures c.before.u32-at5.ensures in
-    let is = at-u32-at.u32-at.ensures ∙ ap (word A.offer.now) L.inv.2 in (
+    let next = next_at _ _ _ _ (omega arith) L.invariant.2 _ _ _ at-u32-at.u32_at.ensures at-start-of.start_of-start.ensures.0 c.byte_at.ensures.0 in
+    let this = action_is _ _ _ _ _ _ _ at-start-of.start_of-start.ensures.0 at-u32-at2.u32_at-in-loop-step.ensures at-u32-at3.u32_at-in-loop-step-2.ensures
+    c.u32_at-in-loop-step-3.ensures c.u32_at-in-loop-step-4.ensures in
+    let is = at-u32-at.u32_at.ensures ∙ ap (word A.offer.now) L.invariant.2 in (
       omega arith,
       omega arith,
       next,
-      simp length-set L.inv.3,
-      held_more L.masks L.step _ _ _ _ (omega arith) f L.inv.4 (this ∙ ap (action_of A.plant.now) is) _ refl,
+      simp length-set L.invariant.3,
+      held_more L.masks L.step _ _ _ _ (omega arith) f L.invariant.4 (this ∙ ap (action_of A.plant.now) is) _ refl,
     )
 
 returns : tie.Need-returns invariant_loop decreases_loop
-returns c = held_chain _ _ _ _ _ (λ j h. c.before.loop.invariant.4 j (omega arith))
+returns c = held_chain _ _ _ _ _ (λ j h. c.loop-step.invariant.4 j (omega arith))
 
 pub read_masks_spec : {M : Type 1} → statement M
 read_masks_spec =

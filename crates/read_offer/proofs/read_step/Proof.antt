@@ -6,22 +6,22 @@ use borrow.Author.Rules.{rules}
 use Rattle.read_offer.proofs.read_step.Statement.{statement}
 use Rattle.read_offer.proofs.read_step.Tie as tie
 
-returns : tie.Need-returns
+returns : tie.Need-returns-then-offer-at-lt4
 returns c = too_short _ _ _ _ (omega arith)
 
-returns-2 : tie.Need-returns-2
+returns-2 : tie.Need-returns-then-t-action
 returns-2 c = let entry : tie.Start = search in
-    no_action_lem _ _ _ _ _ _ entry.pre.1 (omega arith) c.before.before.u32-at.ensures c.if2.true
+    no_action_lem _ _ _ _ _ _ entry.requires.1 (omega arith) c.u32_at-action.ensures c.if-t-action.true
 
-returns-3 : tie.Need-returns-3
-returns-3 c = let at-u32-at : tie.After-u32-at = search in let entry : tie.Start = search in
-    cut_off _ _ _ _ _ _ entry.pre.1 (omega arith) at-u32-at.u32-at.ensures _ c.before.before.if2.false c.before.allocation-count.ensures.0
+returns-3 : tie.Need-returns-then-offer-at
+returns-3 c = let at-u32-at : tie.After-u32_at-action = search in let entry : tie.Start = search in
+    cut_off _ _ _ _ _ _ entry.requires.1 (omega arith) at-u32-at.u32_at-action.ensures _ c.if-t-action.false c.allocation_count-n.ensures.0
     (omega arith)
 
-returns-4 : tie.Need-returns-4
-returns-4 c = let at-u32-at : tie.After-u32-at = search in let entry : tie.Start = search in
-    step_ends _ _ _ _ _ _ entry.pre.1 (omega arith) at-u32-at.u32-at.ensures _ c.before.before.if2.false
-    c.before.allocation-count.ensures.0 (omega arith)
+returns-4 : tie.Need-returns
+returns-4 c = let at-u32-at : tie.After-u32_at-action = search in let entry : tie.Start = search in
+    step_ends _ _ _ _ _ _ entry.requires.1 (omega arith) at-u32-at.u32_at-action.ensures _ c.if-t-action.false
+    c.allocation_count-n.ensures.0 (omega arith)
 
 pub read_step_spec : {M : Type 1} → statement M
 read_step_spec =

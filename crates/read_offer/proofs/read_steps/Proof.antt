@@ -12,43 +12,43 @@ use borrow.Author.Rules.{rules}
 use Rattle.read_offer.proofs.read_steps.Statement.{statement}
 use Rattle.read_offer.proofs.read_steps.Tie as tie
 
-abbrev invariant_loop : tie.invariant_loop
+abbrev invariant_loop : tie.invariant-loop-step
 invariant_loop plant t offer count at₀ step₀ at step =
     (step ≤ count) × (at ≤ length offer) × (at ≡ step_start plant offer step) × (first_refusal (step_ruling plant offer) step ≡ Accepted)
 
-abbrev decreases_loop : tie.decreases_loop
+abbrev decreases_loop : tie.decreases-loop-step
 decreases_loop plant t offer count at₀ step₀ at step = count - step
 
-loop-holds : tie.Need-loop-init invariant_loop decreases_loop
-loop-holds c = (omega arith, c.before.before.requires.2, first_start _ _, first_none _)
+loop-holds : tie.Need-loop-step-init invariant_loop decreases_loop
+loop-holds c = (omega arith, c.requires.2, first_start _ _, first_none _)
 
-read-step-requires : tie.Need-read-step-requires invariant_loop decreases_loop
+read-step-requires : tie.Need-read_step-answer-requires invariant_loop decreases_loop
 read-step-requires c κs = let entry : tie.Start invariant_loop decreases_loop = search in
-    (entry.pre.0, entry.pre.1, c.before.loop.invariant.1)
+    (entry.requires.0, entry.requires.1, c.loop-step.invariant.1)
 
-returns : tie.Need-returns invariant_loop decreases_loop
-returns c = let at-read-step : tie.After-read-step invariant_loop decreases_loop = search in let at-loop-test : tie.In-loop invariant_loop decreases_loop = search in
-    let at-loop : tie.At-loop invariant_loop decreases_loop = search in let entry : tie.Start invariant_loop decreases_loop = search in
-    let here = ruling_is _ _ _ _ _ at-loop.loop.inv.2 at-read-step.Read-step.ensures in
-    c.refusal.ensures ∙ ap refusal_of c.before.enum_told.given.1
-    ∙ steps_refused _ _ _ entry.pre.2 entry.pre.3 entry.pre.4 entry.pre.5 _
-    (reading_stops _ _ _ at-loop.loop.inv.3 here _ _ c.before.enum_told.given.1 at-loop-test.loop-test.taken)
+returns : tie.Need-returns-in_default invariant_loop decreases_loop
+returns c = let at-read-step : tie.After-read_step-answer invariant_loop decreases_loop = search in let at-loop-test : tie.In-loop-step invariant_loop decreases_loop = search in
+    let at-loop : tie.At-loop-step invariant_loop decreases_loop = search in let entry : tie.Start invariant_loop decreases_loop = search in
+    let here = ruling_is _ _ _ _ _ at-loop.loop-step.invariant.2 at-read-step.read_step-answer.ensures in
+    c.refusal.ensures ∙ ap refusal_of c.in_default.is
+    ∙ steps_refused _ _ _ entry.requires.2 entry.requires.3 entry.requires.4 entry.requires.5 _
+    (reading_stops _ _ _ at-loop.loop-step.invariant.3 here _ _ c.in_default.is at-loop-test.loop-step-test.true)
 
-loop-again : tie.Need-loop-preserved invariant_loop decreases_loop
-loop-again c = let at-read-step : tie.After-read-step invariant_loop decreases_loop = search in let at-loop : tie.At-loop invariant_loop decreases_loop = search in
-    let here = ruling_is _ _ _ _ _ at-loop.loop.inv.2 at-read-step.Read-step.ensures in
-    let next = next_start _ _ _ _ _ at-loop.loop.inv.2 at-read-step.Read-step.ensures _ c.before.answer.given.1 in
-    (omega arith, next.0, next.1, reading_goes_on _ _ _ at-loop.loop.inv.3 here _ c.before.answer.given.1)
+loop-again : tie.Need-loop-step-preserved invariant_loop decreases_loop
+loop-again c = let at-read-step : tie.After-read_step-answer invariant_loop decreases_loop = search in let at-loop : tie.At-loop-step invariant_loop decreases_loop = search in
+    let here = ruling_is _ _ _ _ _ at-loop.loop-step.invariant.2 at-read-step.read_step-answer.ensures in
+    let next = next_start _ _ _ _ _ at-loop.loop-step.invariant.2 at-read-step.read_step-answer.ensures _ c.in-Ends.is in
+    (omega arith, next.0, next.1, reading_goes_on _ _ _ at-loop.loop-step.invariant.3 here _ c.in-Ends.is)
 
-returns-2 : tie.Need-returns-2 invariant_loop decreases_loop
-returns-2 c = let at-loop : tie.At-loop invariant_loop decreases_loop = search in let entry : tie.Start invariant_loop decreases_loop = search in
-    steps_end _ _ _ entry.pre.2 entry.pre.3 entry.pre.4 entry.pre.5 _ _ (omega arith) at-loop.loop.inv.3 at-loop.loop.inv.2
-    c.if1.true
+returns-2 : tie.Need-returns-then-at-offer invariant_loop decreases_loop
+returns-2 c = let at-loop : tie.At-loop-step invariant_loop decreases_loop = search in let entry : tie.Start invariant_loop decreases_loop = search in
+    steps_end _ _ _ entry.requires.2 entry.requires.3 entry.requires.4 entry.requires.5 _ _ (omega arith) at-loop.loop-step.invariant.3 at-loop.loop-step.invariant.2
+    c.if-at-offer.true
 
-returns-3 : tie.Need-returns-3 invariant_loop decreases_loop
-returns-3 c = let at-loop : tie.At-loop invariant_loop decreases_loop = search in let entry : tie.Start invariant_loop decreases_loop = search in
-    left_over _ _ _ entry.pre.2 entry.pre.3 entry.pre.4 entry.pre.5 _ _ (omega arith) at-loop.loop.inv.3 at-loop.loop.inv.2
-    c.if1.false
+returns-3 : tie.Need-returns invariant_loop decreases_loop
+returns-3 c = let at-loop : tie.At-loop-step invariant_loop decreases_loop = search in let entry : tie.Start invariant_loop decreases_loop = search in
+    left_over _ _ _ entry.requires.2 entry.requires.3 entry.requires.4 entry.requires.5 _ _ (omega arith) at-loop.loop-step.invariant.3 at-loop.loop-step.invariant.2
+    c.if-at-offer.false
 
 pub read_steps_spec : {M : Type 1} → statement M
 read_steps_spec =

@@ -10,41 +10,41 @@ use borrow.Author.Rules.{rules}
 use Rattle.read_offer.proofs.rule_facts.Statement.{statement}
 use Rattle.read_offer.proofs.rule_facts.Tie as tie
 
-returns : tie.Need-returns
-returns c = plant_refused _ _ _ _ c.before.before.check-plant.ensures c.enum-told2.given.1
+returns : tie.Need-returns-in_default
+returns c = plant_refused _ _ _ _ c.check_plant-first.ensures c.in_default.is
 
 -- past each reading: what it found
-plant_good : (c : tie.After-enum-told) → (let entry : tie.Start = search in plant_ruling entry.args.plant.now ≡ Accepted)
+plant_good : (c : tie.In-Accepted) → (let entry : tie.Start = search in plant_ruling entry.args.plant.now ≡ Accepted)
 plant_good c = cc
 
-format_good : (c : tie.After-enum-told3) → (let entry : tie.Start = search in offer_ruling entry.args.plant.now entry.args.offer.now ≡ Accepted)
+format_good : (c : tie.In-Accepted-second) → (let entry : tie.Start = search in offer_ruling entry.args.plant.now entry.args.offer.now ≡ Accepted)
 format_good c = cc
 
-read-trailer-requires : tie.Need-read-trailer-requires
+read-trailer-requires : tie.Need-read_trailer-t-requires
 read-trailer-requires c κs = (good _ (plant_good c)).long
 
-read-offer-requires : tie.Need-read-offer-requires
-read-offer-requires c κs = (plant_good (search), c.read-trailer.ensures.0)
+read-offer-requires : tie.Need-read_offer-second-requires
+read-offer-requires c κs = (plant_good (search), c.read_trailer-t.ensures.0)
 
-returns-2 : tie.Need-returns-2
-returns-2 c = let offered : tie.After-read-offer = search in
-    offer_refused _ _ _ _ (plant_good (search)) offered.read-offer.ensures c.enum-told4.given.1
+returns-2 : tie.Need-returns-in_default-second
+returns-2 c = let offered : tie.After-read_offer-second = search in
+    offer_refused _ _ _ _ (plant_good (search)) offered.read_offer-second.ensures c.in_default-second.is
 
-check-consistency-requires : tie.Need-check-consistency-requires
+check-consistency-requires : tie.Need-check_consistency-third-requires
 check-consistency-requires c κs = (read_of _ _ (format_good c)).long
 
-returns-3 : tie.Need-returns-3
-returns-3 c = let tested : tie.After-check-consistency = search in
-    facts_refused _ _ (plant_good (search)) (format_good (search)) _ _ tested.check-consistency.ensures c.enum-told6.given.1
+returns-3 : tie.Need-returns-in_default-third
+returns-3 c = let tested : tie.After-check_consistency-third = search in
+    facts_refused _ _ (plant_good (search)) (format_good (search)) _ _ tested.check_consistency-third.ensures c.in_default-third.is
 
-check-chain-requires : tie.Need-check-chain-requires
-check-chain-requires c κs = let trailer : tie.After-read-trailer = search in
-    (plant_good (search), trailer.read-trailer.ensures.0, format_good (search))
+check-chain-requires : tie.Need-check_chain-requires
+check-chain-requires c κs = let trailer : tie.After-read_trailer-t = search in
+    (plant_good (search), trailer.read_trailer-t.ensures.0, format_good (search))
 
-returns-4 : tie.Need-returns-4
-returns-4 c = let tested : tie.After-check-consistency = search in
-    let agreed = sym tested.check-consistency.ensures ∙ c.before.enum-told5.given.1 in
-    c.check-chain.ensures ∙ on_to_chain _ _ (plant_good (search)) (format_good (search)) agreed
+returns-4 : tie.Need-returns
+returns-4 c = let tested : tie.After-check_consistency-third = search in
+    let agreed = sym tested.check_consistency-third.ensures ∙ c.in-Accepted-third.is in
+    c.check_chain.ensures ∙ on_to_chain _ _ (plant_good (search)) (format_good (search)) agreed
 
 pub rule_facts_spec : {M : Type 1} → statement M
 rule_facts_spec =

@@ -8,28 +8,28 @@ use borrow.Author.Rules.{rules}
 use Rattle.read_plant.proofs.check_plant.Statement.{statement}
 use Rattle.read_plant.proofs.check_plant.Tie as tie
 
-returns : tie.Need-returns
+returns : tie.Need-returns-then-s-lt12
 unfolding plant_ruling
-returns c = simp (lt-ltb _ _ c.if1.true)
+returns c = simp (lt-ltb _ _ c.if-s-lt12.true)
 
-returns-2 : tie.Need-returns-2
-returns-2 c = unmarked _ _ c.before.before.if1.false c.before.is-marked.ensures (not-true _ c.if2.true)
+returns-2 : tie.Need-returns-then-not-is_marked
+returns-2 c = unmarked _ _ c.if-s-lt12.false c.is_marked.ensures (not-true _ c.if-not-is_marked.true-raw)
 
-returns-3 : tie.Need-returns-3
-returns-3 c = let at-if2 : tie.Else2 = search in let at-is-marked : tie.After-is-marked = search in let at-if1 : tie.Else1 = search in
-    bad_layout_lem _ _ _ at-if1.if1.left at-is-marked.is-marked.ensures c.before.before.read-trailer.ensures.0 (not-false _ at-if2.if2.left)
-    (sym c.before.is-bad-layout.ensures ∙ c.if3.true)
+returns-3 : tie.Need-returns-then-is_bad_layout
+returns-3 c = let at-if2 : tie.Else-not-is_marked = search in let at-is-marked : tie.After-is_marked = search in let at-if1 : tie.Else-s-lt12 = search in
+    bad_layout_lem _ _ _ at-if1.if-s-lt12.false at-is-marked.is_marked.ensures c.read_trailer-t.ensures.0 (not-false _ at-if2.if-not-is_marked.false-raw)
+    (sym c.is_bad_layout.ensures ∙ c.if-is_bad_layout.true)
 
-read-records-requires : tie.Need-read-records-requires
-read-records-requires c κs = let right = layout_right _ _ (sym c.before.is-bad-layout.ensures ∙ c.if3.false) in
-    (c.before.before.read-trailer.ensures.0, right.0, right.1)
+read-records-requires : tie.Need-read_records-requires
+read-records-requires c κs = let right = layout_right _ _ (sym c.is_bad_layout.ensures ∙ c.if-is_bad_layout.false) in
+    (c.read_trailer-t.ensures.0, right.0, right.1)
 
-returns-4 : tie.Need-returns-4
+returns-4 : tie.Need-returns
 returns-4 c =
-    let at-read-trailer : tie.After-read-trailer = search in let at-if2 : tie.Else2 = search in let at-is-marked : tie.After-is-marked = search in
-    let at-if1 : tie.Else1 = search in
-    c.read-records.ensures ∙ on_to_records _ _ _ at-if1.if1.left at-is-marked.is-marked.ensures at-read-trailer.read-trailer.ensures.0
-    (not-false _ at-if2.if2.left) (sym c.before.before.is-bad-layout.ensures ∙ c.before.if3.false)
+    let at-read-trailer : tie.After-read_trailer-t = search in let at-if2 : tie.Else-not-is_marked = search in let at-is-marked : tie.After-is_marked = search in
+    let at-if1 : tie.Else-s-lt12 = search in
+    c.read_records.ensures ∙ on_to_records _ _ _ at-if1.if-s-lt12.false at-is-marked.is_marked.ensures at-read-trailer.read_trailer-t.ensures.0
+    (not-false _ at-if2.if-not-is_marked.false-raw) (sym c.is_bad_layout.ensures ∙ c.if-is_bad_layout.false)
 
 pub check_plant_spec : {M : Type 1} → statement M
 check_plant_spec =

@@ -8,7 +8,7 @@ use Rattle.read_plant.proofs.count_at.Tie as tie
 
 returns : tie.Need-returns
 returns c = let entry : tie.Start = search in
-    let n = c.offset_at.ensures.0 ∙ head_count _ _ entry.pre.1 in let h = bytes_clean _ _ entry.pre.1 in (n, omega (arith, n, h))
+    let n = c.offset_at.ensures.0 ∙ head_count _ _ entry.requires.1 in let h = bytes_clean _ _ entry.requires.1 in (n, omega (arith, n, h))
 
 pub count_at_spec : {M : Type 1} → statement M
 count_at_spec = tie.close (tie.spec (λ c. search rules) (λ c κs. search rules) returns)

@@ -8,10 +8,10 @@ use Rattle.read_plant.proofs.has_fact_twice.Statement.{statement}
 use Rattle.read_plant.proofs.has_fact_twice.Tie as tie
 
 returns : tie.Need-returns
-returns c = let nt : tie.After-u32-at = search in let nf : tie.After-u32-at2 = search in let rules : tie.After-overlap = search in
-    let mt : tie.After-u32-at3 = search in let mf : tie.After-u32-at4 = search in
-    ap₂ ◌||◌ (rules.overlap.ensures ∙ ap₂ share nt.u32-at.ensures nf.u32-at2.ensures)
-    (c.overlap2.ensures ∙ ap₂ share mt.u32-at3.ensures mf.u32-at4.ensures)
+returns c = let nt : tie.After-u32_at = search in let nf : tie.After-u32_at-2 = search in let rules : tie.After-overlap = search in
+    let mt : tie.After-u32_at-3 = search in let mf : tie.After-u32_at-4 = search in
+    ap₂ ◌||◌ (rules.overlap.ensures ∙ ap₂ share nt.u32_at.ensures nf.u32_at-2.ensures)
+    (c.overlap-2.ensures ∙ ap₂ share mt.u32_at-3.ensures mf.u32_at-4.ensures)
 
 pub has_fact_twice_spec : {M : Type 1} → statement M
 has_fact_twice_spec =

@@ -7,29 +7,29 @@ use borrow.Author.Rules.{rules}
 use Rattle.read_plant.proofs.is_bad_action.Statement.{statement}
 use Rattle.read_plant.proofs.is_bad_action.Tie as tie
 
-returns : tie.Need-returns
-returns c = let entry : tie.Start = search in let A = entry.args in let facts : tie.After-has-fact-twice = search in
-    simp (action_tests A.s.now A.at, ← facts.has-fact-twice.ensures, c.if1.true)
+returns : tie.Need-returns-then-has_fact_twice
+returns c = let entry : tie.Start = search in let A = entry.args in let facts : tie.After-has_fact_twice = search in
+    simp (action_tests A.s.now A.at, ← facts.has_fact_twice.ensures, c.if-has_fact_twice.true)
 
 -- past the facts, durations and allocations decide
 facts_apart :
-    (c : tie.Else1)
+    (c : tie.Else-has_fact_twice)
     → (let entry : tie.Start = search in let A = entry.args in
     (bad_duration (shortest A.s.now A.at) (longest A.s.now A.at) || some_bad_allocation A.s.now A.at (allocation_count A.s.now A.at))
     ≡ bad_action A.s.now A.at)
-facts_apart c = let entry : tie.Start = search in let A = entry.args in let facts : tie.After-has-fact-twice = search in
-    simp (action_tests A.s.now A.at, ← facts.has-fact-twice.ensures, c.if1.false)
+facts_apart c = let entry : tie.Start = search in let A = entry.args in let facts : tie.After-has_fact_twice = search in
+    simp (action_tests A.s.now A.at, ← facts.has_fact_twice.ensures, c.if-has_fact_twice.false)
 
-returns-2 : tie.Need-returns-2
-returns-2 c = let none : tie.Else1 = search in let short : tie.After-u32-at = search in let long : tie.After-u32-at2 = search in
-    let lasts : tie.After-is-bad-duration = search in
-    simp (← facts_apart none, ← short.u32-at.ensures, ← long.u32-at2.ensures, ← lasts.is-bad-duration.ensures, c.if2.true)
+returns-2 : tie.Need-returns-then-is_bad_duration
+returns-2 c = let none : tie.Else-has_fact_twice = search in let short : tie.After-u32_at = search in let long : tie.After-u32_at-2 = search in
+    let lasts : tie.After-is_bad_duration = search in
+    simp (← facts_apart none, ← short.u32_at.ensures, ← long.u32_at-2.ensures, ← lasts.is_bad_duration.ensures, c.if-is_bad_duration.true)
 
-returns-3 : tie.Need-returns-3
-returns-3 c = let entry : tie.Start = search in let none : tie.Else1 = search in let short : tie.After-u32-at = search in
-    let long : tie.After-u32-at2 = search in let lasts : tie.After-is-bad-duration = search in let in_range = c.before.if2.false in
-    simp (← facts_apart none, ← short.u32-at.ensures, ← long.u32-at2.ensures, ← lasts.is-bad-duration.ensures, in_range, ← entry.pre.1)
-    c.is-some-bad.ensures
+returns-3 : tie.Need-returns
+returns-3 c = let entry : tie.Start = search in let none : tie.Else-has_fact_twice = search in let short : tie.After-u32_at = search in
+    let long : tie.After-u32_at-2 = search in let lasts : tie.After-is_bad_duration = search in let in_range = c.if-is_bad_duration.false in
+    simp (← facts_apart none, ← short.u32_at.ensures, ← long.u32_at-2.ensures, ← lasts.is_bad_duration.ensures, in_range, ← entry.requires.1)
+    c.is_some_bad.ensures
 
 pub is_bad_action_spec : {M : Type 1} → statement M
 is_bad_action_spec =

@@ -7,7 +7,7 @@ use Rattle.read_plant.proofs.is_bad_head.Statement.{statement}
 use Rattle.read_plant.proofs.is_bad_head.Tie as tie
 
 returns : tie.Need-returns
-returns c = ap (ltb 4) c.u32-at.ensures ∙ head_passes _ _
+returns c = ap (ltb 4) c.u32_at.ensures ∙ head_passes _ _
 
 pub is_bad_head_spec : {M : Type 1} → statement M
 is_bad_head_spec = tie.close (tie.spec (λ c. search rules) (λ c κs. search rules) returns)

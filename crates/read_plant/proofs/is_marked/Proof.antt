@@ -7,23 +7,23 @@ use borrow.Author.Rules.{rules}
 use Rattle.read_plant.proofs.is_marked.Statement.{statement}
 use Rattle.read_plant.proofs.is_marked.Tie as tie
 
-returns : tie.Need-returns
+returns : tie.Need-returns-then-s-at
 unfolding is_mark
-returns c = simp (ne_eqb _ _ c.if1.true)
+returns c = simp (ne_eqb _ _ c.if-s-at.true)
 
-returns-2 : tie.Need-returns-2
+returns-2 : tie.Need-returns-then-s-at-2
 unfolding is_mark
-returns-2 c = simp (eq-eqb _ _ c.before.before.if1.false, ne_eqb _ _ c.if2.true)
+returns-2 c = simp (eq-eqb _ _ c.if-s-at.false, ne_eqb _ _ c.if-s-at-2.true)
 
-returns-3 : tie.Need-returns-3
+returns-3 : tie.Need-returns-then-s-at-3
 unfolding is_mark
-returns-3 c = let at-if1 : tie.Else1 = search in
-    simp (eq-eqb _ _ at-if1.if1.left, eq-eqb _ _ c.before.before.if2.false, ne_eqb _ _ c.if3.true)
+returns-3 c = let at-if1 : tie.Else-s-at = search in
+    simp (eq-eqb _ _ at-if1.if-s-at.false, eq-eqb _ _ c.if-s-at-2.false, ne_eqb _ _ c.if-s-at-3.true)
 
-returns-4 : tie.Need-returns-4
+returns-4 : tie.Need-returns
 unfolding is_mark
-returns-4 c = let at-if2 : tie.Else2 = search in let at-if1 : tie.Else1 = search in
-    last_of_and _ _ _ _ (eq-eqb _ _ at-if1.if1.left) (eq-eqb _ _ at-if2.if2.left) (eq-eqb _ _ c.before.if3.false)
+returns-4 c = let at-if2 : tie.Else-s-at-2 = search in let at-if1 : tie.Else-s-at = search in
+    last_of_and _ _ _ _ (eq-eqb _ _ at-if1.if-s-at.false) (eq-eqb _ _ at-if2.if-s-at-2.false) (eq-eqb _ _ c.if-s-at-3.false)
 
 pub is_marked_spec : {M : Type 1} → statement M
 is_marked_spec =

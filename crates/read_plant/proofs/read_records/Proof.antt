@@ -24,121 +24,121 @@ abbrev Reached : List ℕ → Trailer → ℕ → ℕ → Type 0
 Reached s t at action = (action ≤ t.count) × (at ≡ record_start s action) × (word s (t.index + 4 * action) ≡ at)
     × (first_refusal (record_ruling s) action ≡ Accepted)
 
-abbrev invariant_loop : tie.invariant_loop
+abbrev invariant_loop : tie.invariant-loop-at
 invariant_loop s t at₀ entry₀ at entry = Reached s t at (number t entry) × (at < 2 ^ 32) × (entry ≡ t.index + 4 * number t entry)
 
-abbrev decreases_loop : tie.decreases_loop
+abbrev decreases_loop : tie.decreases-loop-at
 decreases_loop s t at₀ entry₀ at entry = t.count - number t entry
 
-offset-at-requires : tie.Need-offset-at-requires invariant_loop decreases_loop
-offset-at-requires c κs = let entry : tie.Start invariant_loop decreases_loop = search in let fits = entry.pre.1 in omega (arith, fits)
+offset-at-requires : tie.Need-offset_at-at-requires invariant_loop decreases_loop
+offset-at-requires c κs = let entry : tie.Start invariant_loop decreases_loop = search in let fits = entry.requires.1 in omega (arith, fits)
 
-returns : tie.Need-returns invariant_loop decreases_loop
-returns c = let entry : tie.Start invariant_loop decreases_loop = search in let e = c.before.offset_at.ensures.0 in let d = c.if1.true in
-    sym (first_refused _ _ entry.pre.0 (λ q. d (e ∙ q)) entry.pre.2)
+returns : tie.Need-returns-then-at-ne0 invariant_loop decreases_loop
+returns c = let entry : tie.Start invariant_loop decreases_loop = search in let e = c.offset_at-at.ensures.0 in let d = c.if-at-ne0.true in
+    sym (first_refused _ _ entry.requires.0 (λ q. d (e ∙ q)) entry.requires.2)
 
-loop-holds : tie.Need-loop-init invariant_loop decreases_loop
-loop-holds c = let entry : tie.Start invariant_loop decreases_loop = search in let first : tie.After-offset-at invariant_loop decreases_loop = search in let none = c.if1.false in
-    let zero = first.offset_at.ensures in let A = entry.args in let e : 0 ≡ number A.t A.t.index = omega arith in (
-      subst (Reached A.s.now A.t first.offset_at.result) e
+loop-holds : tie.Need-loop-at-init invariant_loop decreases_loop
+loop-holds c = let entry : tie.Start invariant_loop decreases_loop = search in let first : tie.After-offset_at-at invariant_loop decreases_loop = search in let none = c.if-at-ne0.false in
+    let zero = first.offset_at-at.ensures in let A = entry.args in let e : 0 ≡ number A.t A.t.index = omega arith in (
+      subst (Reached A.s.now A.t first.offset_at-at.result) e
           (omega arith, none ∙ start_none _, ap (word _) (omega arith) ∙ sym zero.0, first_none _),
       zero.1,
       omega arith,
     )
 
-add-if2 : tie.Need-overflow-add-if2 invariant_loop decreases_loop
-add-if2 c = let small = c.loop.invariant.1 in omega (arith, small)
+add-if2 : tie.Need-overflow_add-at invariant_loop decreases_loop
+add-if2 c = let small = c.loop-at.invariant.1 in omega (arith, small)
 
-action-of-requires : tie.Need-action-of-requires invariant_loop decreases_loop
-action-of-requires c κs = let at-loop : tie.At-loop invariant_loop decreases_loop = search in let place = at-loop.loop.inv.2 in let most = at-loop.loop.inv.0.0 in
+action-of-requires : tie.Need-action_of-action-requires invariant_loop decreases_loop
+action-of-requires c κs = let at-loop : tie.At-loop-at invariant_loop decreases_loop = search in let place = at-loop.loop-at.invariant.2 in let most = at-loop.loop-at.invariant.0.0 in
     (omega (arith, place), omega (arith, place, most))
 
 -- where a record has room, it is of an action, whose number was told
 here :
-    (c : tie.After-action-of invariant_loop decreases_loop)
-    → (let entry : tie.Start invariant_loop decreases_loop = search in let at-loop : tie.At-loop invariant_loop decreases_loop = search in let A = entry.args in
-    let now = at-loop.loop in let action = c.action-of.result in
+    (c : tie.After-action_of-action invariant_loop decreases_loop)
+    → (let entry : tie.Start invariant_loop decreases_loop = search in let at-loop : tie.At-loop-at invariant_loop decreases_loop = search in let A = entry.args in
+    let now = at-loop.loop-at in let action = c.action_of-action.result in
     Reached A.s.now A.t now.at action × (now.entry ≡ A.t.index + 4 * action) × (action < A.t.count))
-here c = let entry : tie.Start invariant_loop decreases_loop = search in let at-loop : tie.At-loop invariant_loop decreases_loop = search in let A = entry.args in
-    let room : tie.Then2 invariant_loop decreases_loop = search in let inv = at-loop.loop.inv in let is = sym c.action-of.ensures in
-    let reached = subst (Reached A.s.now A.t at-loop.loop.at) is inv.0 in (
+here c = let entry : tie.Start invariant_loop decreases_loop = search in let at-loop : tie.At-loop-at invariant_loop decreases_loop = search in let A = entry.args in
+    let room : tie.In-loop-at invariant_loop decreases_loop = search in let inv = at-loop.loop-at.invariant in let is = sym c.action_of-action.ensures in
+    let reached = subst (Reached A.s.now A.t at-loop.loop-at.at) is inv.0 in (
       reached,
-      subst (λ (k : ℕ). at-loop.loop.entry ≡ A.t.index + 4 * k) is inv.2,
-      more_records _ _ entry.pre.0 entry.pre.1 _ _ reached.0 reached.2 room.if2.taken,
+      subst (λ (k : ℕ). at-loop.loop-at.entry ≡ A.t.index + 4 * k) is inv.2,
+      more_records _ _ entry.requires.0 entry.requires.1 _ _ reached.0 reached.2 room.loop-at-test.true,
     )
 
-add-entry : tie.Need-overflow-add-entry invariant_loop decreases_loop
-add-entry c = let entry : tie.Start invariant_loop decreases_loop = search in let place = (here c).1 in let h = (here c).2 in let fits = entry.pre.1 in
+add-entry : tie.Need-overflow_add-entry invariant_loop decreases_loop
+add-entry c = let entry : tie.Start invariant_loop decreases_loop = search in let place = (here c).1 in let h = (here c).2 in let fits = entry.requires.1 in
     omega (arith, place, h, fits)
 
-offset-at-requires-2 : tie.Need-offset-at-requires-2 invariant_loop decreases_loop
-offset-at-requires-2 c κs = let entry : tie.Start invariant_loop decreases_loop = search in let told : tie.After-action-of invariant_loop decreases_loop = search in
-    let place = (here told).1 in let h = (here told).2 in let fits = entry.pre.1 in omega (arith, place, h, fits)
+offset-at-requires-2 : tie.Need-offset_at-next-requires invariant_loop decreases_loop
+offset-at-requires-2 c κs = let entry : tie.Start invariant_loop decreases_loop = search in let told : tie.After-action_of-action invariant_loop decreases_loop = search in
+    let place = (here told).1 in let h = (here told).2 in let fits = entry.requires.1 in omega (arith, place, h, fits)
 
 -- what the index says of where the next record starts
 next_is :
-    (c : tie.After-offset-at2 invariant_loop decreases_loop)
-    → (let entry : tie.Start invariant_loop decreases_loop = search in let told : tie.After-action-of invariant_loop decreases_loop = search in let A = entry.args in
-    word A.s.now (A.t.index + 4 * (told.action-of.result + 1)) ≡ c.offset-at2.result)
-next_is c = let told : tie.After-action-of invariant_loop decreases_loop = search in let place = (here told).1 in
-    ap (word _) (omega (arith, place)) ∙ sym c.offset-at2.ensures.0
+    (c : tie.After-offset_at-next invariant_loop decreases_loop)
+    → (let entry : tie.Start invariant_loop decreases_loop = search in let told : tie.After-action_of-action invariant_loop decreases_loop = search in let A = entry.args in
+    word A.s.now (A.t.index + 4 * (told.action_of-action.result + 1)) ≡ c.offset_at-next.result)
+next_is c = let told : tie.After-action_of-action invariant_loop decreases_loop = search in let place = (here told).1 in
+    ap (word _) (omega (arith, place)) ∙ sym c.offset_at-next.ensures.0
 
 -- the last record has to end where the index starts
 last_at :
-    (c : tie.After-offset-at2 invariant_loop decreases_loop)
-    → (let entry : tie.Start invariant_loop decreases_loop = search in let told : tie.After-action-of invariant_loop decreases_loop = search in let T = entry.args.t in
-    told.action-of.result + 1 ≡ T.count → c.offset-at2.result ≡ T.index)
+    (c : tie.After-offset_at-next invariant_loop decreases_loop)
+    → (let entry : tie.Start invariant_loop decreases_loop = search in let told : tie.After-action_of-action invariant_loop decreases_loop = search in let T = entry.args.t in
+    told.action_of-action.result + 1 ≡ T.count → c.offset_at-next.result ≡ T.index)
 last_at c last = let entry : tie.Start invariant_loop decreases_loop = search in
     sym (next_is c) ∙ ap (λ (k : ℕ). word entry.args.s.now (entry.args.t.index + 4 * k)) last
-    ∙ index_again _ _ entry.pre.0 entry.pre.1
+    ∙ index_again _ _ entry.requires.0 entry.requires.1
 
-read-record-requires : tie.Need-read-record-requires invariant_loop decreases_loop
-read-record-requires c κs = let entry : tie.Start invariant_loop decreases_loop = search in let room : tie.Then2 invariant_loop decreases_loop = search in
-    let told : tie.After-action-of invariant_loop decreases_loop = search in let at-it = here told in let fits = entry.pre.1 in
-    (omega (arith, fits), at-it.2, room.if2.taken, at-it.0.2, last_at c)
+read-record-requires : tie.Need-read_record-answer-requires invariant_loop decreases_loop
+read-record-requires c κs = let entry : tie.Start invariant_loop decreases_loop = search in let room : tie.In-loop-at invariant_loop decreases_loop = search in
+    let told : tie.After-action_of-action invariant_loop decreases_loop = search in let at-it = here told in let fits = entry.requires.1 in
+    (omega (arith, fits), at-it.2, room.loop-at-test.true, at-it.0.2, last_at c)
 
-returns-2 : tie.Need-returns-2 invariant_loop decreases_loop
-returns-2 c = let entry : tie.Start invariant_loop decreases_loop = search in let number : tie.After-action-of invariant_loop decreases_loop = search in
-    let next : tie.After-offset-at2 invariant_loop decreases_loop = search in let read : tie.After-read-record invariant_loop decreases_loop = search in
-    let at-it = here number in let reached = at-it.0 in let is = next_is next in let told = c.before.enum_told.given.1 in
+returns-2 : tie.Need-returns-in_default invariant_loop decreases_loop
+returns-2 c = let entry : tie.Start invariant_loop decreases_loop = search in let number : tie.After-action_of-action invariant_loop decreases_loop = search in
+    let next : tie.After-offset_at-next invariant_loop decreases_loop = search in let read : tie.After-read_record-answer invariant_loop decreases_loop = search in
+    let at-it = here number in let reached = at-it.0 in let is = next_is next in let told = c.in_default.is in
     c.refusal.ensures ∙ ap refusal_of told
-    ∙ sym (reading_fails _ _ entry.pre.0 _ _ reached.1 reached.3 reached.2 at-it.2 _ is (last_at next) _ read.read-record.ensures _ told)
+    ∙ sym (reading_fails _ _ entry.requires.0 _ _ reached.1 reached.3 reached.2 at-it.2 _ is (last_at next) _ read.read_record-answer.ensures _ told)
 
-loop-less : tie.Need-loop-smaller invariant_loop decreases_loop
-loop-less c = let told : tie.After-action-of invariant_loop decreases_loop = search in let place = (here told).1 in let h = (here told).2 in omega (arith, h, place)
+loop-less : tie.Need-loop-at-smaller invariant_loop decreases_loop
+loop-less c = let told : tie.After-action_of-action invariant_loop decreases_loop = search in let place = (here told).1 in let h = (here told).2 in omega (arith, h, place)
 
-loop-again : tie.Need-loop-preserved invariant_loop decreases_loop
-loop-again c = let entry : tie.Start invariant_loop decreases_loop = search in let at-loop : tie.At-loop invariant_loop decreases_loop = search in let A = entry.args in
-    let number-told : tie.After-action-of invariant_loop decreases_loop = search in let action = number-told.action-of.result in
-    let next : tie.After-offset-at2 invariant_loop decreases_loop = search in let read : tie.After-read-record invariant_loop decreases_loop = search in
+loop-again : tie.Need-loop-at-preserved invariant_loop decreases_loop
+loop-again c = let entry : tie.Start invariant_loop decreases_loop = search in let at-loop : tie.At-loop-at invariant_loop decreases_loop = search in let A = entry.args in
+    let number-told : tie.After-action_of-action invariant_loop decreases_loop = search in let action = number-told.action_of-action.result in
+    let next : tie.After-offset_at-next invariant_loop decreases_loop = search in let read : tie.After-read_record-answer invariant_loop decreases_loop = search in
     let at-it = here number-told in let reached = at-it.0 in let place = at-it.1 in let h = at-it.2 in
-    let is = next_is next in let small = next.offset-at2.ensures.1 in let told = c.before.answer.given.1 in
-    let ends = reading_ends _ _ entry.pre.0 _ _ reached.1 reached.3 reached.2 h _ is (last_at next) _ read.read-record.ensures _ told in
-    let there = ends.1 in let one_more : action + 1 ≡ number A.t (at-loop.loop.entry + 4) = omega (arith, place) in (
-      subst (Reached A.s.now A.t c.before.answer.given.0.0) one_more (omega (arith, h), ends.0, there, ends.2),
+    let is = next_is next in let small = next.offset_at-next.ensures.1 in let told = c.in-Ends.is in
+    let ends = reading_ends _ _ entry.requires.0 _ _ reached.1 reached.3 reached.2 h _ is (last_at next) _ read.read_record-answer.ensures _ told in
+    let there = ends.1 in let one_more : action + 1 ≡ number A.t (at-loop.loop-at.entry + 4) = omega (arith, place) in (
+      subst (Reached A.s.now A.t c.in-Ends.end) one_more (omega (arith, h), ends.0, there, ends.2),
       omega (arith, is, small, there),
       omega (arith, place),
     )
 
-action-of-requires-2 : tie.Need-action-of-requires-2 invariant_loop decreases_loop
-action-of-requires-2 c κs = let at-loop : tie.At-loop invariant_loop decreases_loop = search in let place = at-loop.loop.inv.2 in
-    let most = at-loop.loop.inv.0.0 in (omega (arith, place), omega (arith, place, most))
+action-of-requires-2 : tie.Need-action_of-action-requires-2 invariant_loop decreases_loop
+action-of-requires-2 c κs = let at-loop : tie.At-loop-at invariant_loop decreases_loop = search in let place = at-loop.loop-at.invariant.2 in
+    let most = at-loop.loop-at.invariant.0.0 in (omega (arith, place), omega (arith, place, most))
 
 -- behind the loop, with the number that was told
 left_at :
-    (c : tie.After-action-of2 invariant_loop decreases_loop)
-    → (let entry : tie.Start invariant_loop decreases_loop = search in let at-loop : tie.At-loop invariant_loop decreases_loop = search in let A = entry.args in
-    Reached A.s.now A.t at-loop.loop.at c.action-of2.result)
-left_at c = let entry : tie.Start invariant_loop decreases_loop = search in let at-loop : tie.At-loop invariant_loop decreases_loop = search in let A = entry.args in
-    subst (Reached A.s.now A.t at-loop.loop.at) (sym c.action-of2.ensures) at-loop.loop.inv.0
+    (c : tie.After-action_of-action-2 invariant_loop decreases_loop)
+    → (let entry : tie.Start invariant_loop decreases_loop = search in let at-loop : tie.At-loop-at invariant_loop decreases_loop = search in let A = entry.args in
+    Reached A.s.now A.t at-loop.loop-at.at c.action_of-action-2.result)
+left_at c = let entry : tie.Start invariant_loop decreases_loop = search in let at-loop : tie.At-loop-at invariant_loop decreases_loop = search in let A = entry.args in
+    subst (Reached A.s.now A.t at-loop.loop-at.at) (sym c.action_of-action-2.ensures) at-loop.loop-at.invariant.0
 
-returns-3 : tie.Need-returns-3 invariant_loop decreases_loop
-returns-3 c = let entry : tie.Start invariant_loop decreases_loop = search in let no_room : tie.Else2 invariant_loop decreases_loop = search in
-    let told : tie.After-action-of2 invariant_loop decreases_loop = search in let reached = left_at told in
-    sym (room_refused _ _ entry.pre.0 _ _ reached.1 reached.3 reached.2 c.if3.true no_room.if2.left)
+returns-3 : tie.Need-returns-then-action-t invariant_loop decreases_loop
+returns-3 c = let entry : tie.Start invariant_loop decreases_loop = search in let no_room : tie.After-loop-at invariant_loop decreases_loop = search in
+    let told : tie.After-action_of-action-2 invariant_loop decreases_loop = search in let reached = left_at told in
+    sym (room_refused _ _ entry.requires.0 _ _ reached.1 reached.3 reached.2 c.if-action-t.true no_room.loop-at-test.false)
 
-returns-4 : tie.Need-returns-4 invariant_loop decreases_loop
-returns-4 c = let told : tie.After-action-of2 invariant_loop decreases_loop = search in let reached = left_at told in let most = reached.0 in let least = c.if3.false in
+returns-4 : tie.Need-returns invariant_loop decreases_loop
+returns-4 c = let told : tie.After-action_of-action-2 invariant_loop decreases_loop = search in let reached = left_at told in let most = reached.0 in let least = c.if-action-t.false in
     first_ends _ _ _ reached.3 (omega (arith, most, least))
 
 pub read_records_spec : {M : Type 1} → statement M

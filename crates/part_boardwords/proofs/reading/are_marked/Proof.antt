@@ -10,28 +10,28 @@ use Rattle.part_boardwords.specs.Words.{word_in, is_marked, all_marked}
 use Rattle.part_boardwords.proofs.reading.are_marked.Statement.{statement}
 use Rattle.part_boardwords.proofs.reading.are_marked.Tie as tie
 
-abbrev invariant_loop : tie.invariant_loop
+abbrev invariant_loop : tie.invariant-loop-k
 invariant_loop s count ok₀ k₀ ok k = (k ≤ 16) × (ok ≡ all_below (λ i. is_marked count i (word_in s (mark_at i))) k)
 
-abbrev decreases_loop : tie.decreases_loop
+abbrev decreases_loop : tie.decreases-loop-k
 decreases_loop s count ok₀ k₀ ok k = 16 - k
 
-loop-holds : tie.Need-loop-init invariant_loop decreases_loop
+loop-holds : tie.Need-loop-k-init invariant_loop decreases_loop
 loop-holds c = (omega arith, all_below_none _)
 
-loop-again : tie.Need-loop-preserved invariant_loop decreases_loop
-loop-again c = let word_read : tie.After-word invariant_loop decreases_loop = search in
-    let read = c.before in
-    let turn : tie.At-loop invariant_loop decreases_loop = search in
-    let L = turn.loop in
-    let is = c.is-marked.ensures ∙ ap (is_marked word_read.word.result L.k) read.word2.ensures in
-    (omega arith, all_below_next _ L.k L.ok _ L.inv.1 is)
+loop-again : tie.Need-loop-k-preserved invariant_loop decreases_loop
+loop-again c = let word_read : tie.After-word-count invariant_loop decreases_loop = search in
+    let read = c in
+    let turn : tie.At-loop-k invariant_loop decreases_loop = search in
+    let L = turn.loop-k in
+    let is = c.is_marked-ok.ensures ∙ ap (is_marked word_read.word-count.result L.k) read.word.ensures in
+    (omega arith, all_below_next _ L.k L.ok _ L.invariant.1 is)
 
 returns : tie.Need-returns invariant_loop decreases_loop
 unfolding all_marked
-returns c = let L = c.before.loop in
+returns c = let L = c.loop-k in
     let e : L.k ≡ 16 = omega arith in
-    rw (e, c.before.before.word.ensures) at L.invariant.1
+    rw (e, c.word-count.ensures) at L.invariant.1
 
 pub are_marked_spec : {M : Type 1} → statement M
 are_marked_spec =

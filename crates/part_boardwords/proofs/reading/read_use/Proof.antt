@@ -4,7 +4,7 @@ use Rattle.part_boardwords.proofs.reading.read_use.Statement.{statement}
 use Rattle.part_boardwords.proofs.reading.read_use.Tie as tie
 
 returns : tie.Need-returns
-returns c = rw (c.before.before.word.ensures, c.before.word2.ensures, c.word3.ensures)
+returns c = rw (c.word.ensures, c.word-2.ensures, c.word-3.ensures)
 
 pub read_use_spec : {M : Type 1} → statement M
 read_use_spec =

@@ -6,8 +6,8 @@ use Rattle.part_boardwords.proofs.writing.write_job.Statement.{statement}
 use Rattle.part_boardwords.proofs.writing.write_job.Tie as tie
 
 returns : tie.Need-returns
-returns c = let written : tie.After-write-three = search in let marked : tie.After-mark = search in
-    overwritten_fourth _ _ _ _ _ _ _ _ written.write-three.ensures marked.mark.ensures
+returns c = let written : tie.After-write_three = search in let marked : tie.After-mark = search in
+    overwritten_fourth _ _ _ _ _ _ _ _ written.write_three.ensures marked.mark.ensures
 
 pub write_job_spec : {M : Type 1} → statement M
 write_job_spec =

@@ -7,10 +7,10 @@ use Rattle.part_boardwords.proofs.Overwritten.{overwritten_three}
 use Rattle.part_boardwords.proofs.writing.write_three.Statement.{statement}
 use Rattle.part_boardwords.proofs.writing.write_three.Tie as tie
 
-slice-write-w-2 : tie.Need-slice-write-w-2
+slice-write-w-2 : tie.Need-bounds-w-at-2
 slice-write-w-2 c = simp length-set (omega arith)
 
-slice-write-w-3 : tie.Need-slice-write-w-3
+slice-write-w-3 : tie.Need-bounds-w-at-3
 slice-write-w-3 c = simp length-set (omega arith)
 
 returns : tie.Need-returns

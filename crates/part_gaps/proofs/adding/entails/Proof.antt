@@ -9,16 +9,16 @@ use Rattle.part_gaps.specs.Cells.{cell}
 use Rattle.part_gaps.proofs.adding.entails.Statement.{statement}
 use Rattle.part_gaps.proofs.adding.entails.Tie as tie
 
-add-result : tie.Need-overflow-add-result
+add-result : tie.Need-overflow_add-result
 add-result c = let late : tie.After-wide = search in let entry : tie.Start = search in let A = entry.args in
-    let early = c.before.before.wide2 in
+    let early = c.wide-2 in
     let e : get_or A.t.now (late.wide.result * side + early.result) 0 ≡ cell A.t.now A.r.late A.r.early =
     ap (λ (k : ℕ). get_or A.t.now k 0) (omega arith) in
     omega arith
 
 returns : tie.Need-returns
-returns c = let at-wide2 : tie.After-wide2 = search in let at_wide : tie.After-wide = search in
-    rw (at_wide.wide.ensures, at-wide2.wide2.ensures)
+returns c = let at-wide2 : tie.After-wide-2 = search in let at_wide : tie.After-wide = search in
+    rw (at_wide.wide.ensures, at-wide2.wide-2.ensures)
 
 pub entails_spec : {M : Type 1} → statement M
 entails_spec =

@@ -9,16 +9,16 @@ use Rattle.part_gaps.specs.Cells.{cell}
 use Rattle.part_gaps.proofs.adding.is_consistent.Statement.{statement}
 use Rattle.part_gaps.proofs.adding.is_consistent.Tie as tie
 
-add-result-2 : tie.Need-overflow-add-result-2
+add-result-2 : tie.Need-overflow_add-result-2
 add-result-2 c =
-    let late : tie.After-wide2 = search in let early : tie.After-wide = search in let entry : tie.Start = search in let A = entry.args in
-    let e : get_or A.t.now (early.wide.result * side + late.wide2.result) 0 ≡ cell A.t.now A.r.early A.r.late =
+    let late : tie.After-wide-2 = search in let early : tie.After-wide = search in let entry : tie.Start = search in let A = entry.args in
+    let e : get_or A.t.now (early.wide.result * side + late.wide-2.result) 0 ≡ cell A.t.now A.r.early A.r.late =
     ap (λ (k : ℕ). get_or A.t.now k 0) (omega arith) in
     omega arith
 
 returns : tie.Need-returns
-returns c = let at-wide2 : tie.After-wide2 = search in let at_wide : tie.After-wide = search in
-    rw (at_wide.wide.ensures, at-wide2.wide2.ensures)
+returns c = let at-wide2 : tie.After-wide-2 = search in let at_wide : tie.After-wide = search in
+    rw (at_wide.wide.ensures, at-wide2.wide-2.ensures)
 
 pub is_consistent_spec : {M : Type 1} → statement M
 is_consistent_spec =

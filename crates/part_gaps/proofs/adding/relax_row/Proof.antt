@@ -5,12 +5,12 @@ use Rattle.part_gaps.proofs.Added.{relaxed_same}
 use Rattle.part_gaps.proofs.adding.relax_row.Statement.{statement}
 use Rattle.part_gaps.proofs.adding.relax_row.Tie as tie
 
-add-if1-2 : tie.Need-overflow-add-if1-2
-add-if1-2 c = let entry : tie.Start = search in omega (arith, entry.pre.1.0 entry.args.early (omega arith))
+add-if1-2 : tie.Need-overflow_add-t
+add-if1-2 c = let entry : tie.Start = search in omega (arith, entry.requires.1.0 entry.args.early (omega arith))
 
-returns : tie.Need-returns
-returns c = let entry : tie.Start = search in let A = entry.args in let p = entry.pre in
-    relaxed_same A.t.now A.row.now A.a A.n A.early A.via A.cut p.0.0 p.0.1 p.0.2 p.1.1.1.1 c.if1.true
+returns : tie.Need-returns-then-t-a
+returns c = let entry : tie.Start = search in let A = entry.args in let p = entry.requires in
+    relaxed_same A.t.now A.row.now A.a A.n A.early A.via A.cut p.0.0 p.0.1 p.0.2 p.1.1.1.1 c.if-t-a.true
 
 pub relax_row_spec : {M : Type 1} → statement M
 relax_row_spec =

@@ -8,18 +8,18 @@ use Rattle.base_lists.specs.Loops.{rewritten}
 use Rattle.part_gaps.proofs.copying.copy_cells.Statement.{statement}
 use Rattle.part_gaps.proofs.copying.copy_cells.Tie as tie
 
-abbrev invariant_loop : tie.invariant_loop
+abbrev invariant_loop : tie.invariant-loop-k
 invariant_loop next₀ t count k₀ next k = (k ≤ count) × (next ≡ rewritten (λ (i : ℕ). get_or t i 0) next₀ 0 k) × (length next ≡ length next₀)
 
-abbrev decreases_loop : tie.decreases_loop
+abbrev decreases_loop : tie.decreases-loop-k
 decreases_loop next₀ t count k₀ next k = count - k
 
-loop-holds : tie.Need-loop-init invariant_loop decreases_loop
+loop-holds : tie.Need-loop-k-init invariant_loop decreases_loop
 loop-holds c = (omega arith, rewritten_none _ _ 0 0 (omega arith), refl)
 
-loop-again : tie.Need-loop-preserved invariant_loop decreases_loop
+loop-again : tie.Need-loop-k-preserved invariant_loop decreases_loop
 loop-again c = let entry : tie.Start invariant_loop decreases_loop = search in
-    let L = c.before.before.loop in
+    let L = c.loop-k in
     let f : ℕ → ℕ = λ i. get_or entry.args.t.now i 0 in (
       omega arith,
       store f entry.args.next.now L.next 0 L.k L.invariant.1 (f L.k) _ (omega arith) (omega arith) refl refl,
@@ -27,7 +27,7 @@ loop-again c = let entry : tie.Start invariant_loop decreases_loop = search in
     )
 
 returns : tie.Need-returns invariant_loop decreases_loop
-returns c = done _ _ _ 0 _ c.before.loop.invariant.1 _ (omega arith)
+returns c = done _ _ _ 0 _ c.loop-k.invariant.1 _ (omega arith)
 
 pub copy_cells_spec : {M : Type 1} → statement M
 copy_cells_spec =

@@ -8,7 +8,7 @@ use Rattle.part_gaps.proofs.copying.few_cells.Statement.{statement}
 use Rattle.part_gaps.proofs.copying.few_cells.Tie as tie
 
 returns : tie.Need-returns
-returns c = c.before.copy-cells.ensures ∙ rewritten_whole _ (replicate 1040 0) 1040 (length-replicate {A = ℕ} 1040 0)
+returns c = c.copy_cells.ensures ∙ rewritten_whole _ (replicate 1040 0) 1040 (length-replicate {A = ℕ} 1040 0)
 
 pub few_cells_spec : {M : Type 1} → statement M
 few_cells_spec = tie.close (tie.spec (λ c. search rules) (λ c κs. search rules) returns)

@@ -8,7 +8,7 @@ use Rattle.part_gaps.proofs.copying.fewest_cells.Statement.{statement}
 use Rattle.part_gaps.proofs.copying.fewest_cells.Tie as tie
 
 returns : tie.Need-returns
-returns c = c.before.copy-cells.ensures ∙ rewritten_whole _ (replicate 520 0) 520 (length-replicate {A = ℕ} 520 0)
+returns c = c.copy_cells.ensures ∙ rewritten_whole _ (replicate 520 0) 520 (length-replicate {A = ℕ} 520 0)
 
 pub fewest_cells_spec : {M : Type 1} → statement M
 fewest_cells_spec = tie.close (tie.spec (λ c. search rules) (λ c κs. search rules) returns)

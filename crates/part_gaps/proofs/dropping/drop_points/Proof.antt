@@ -6,9 +6,9 @@ use Rattle.part_gaps.proofs.dropping.drop_points.Statement.{statement}
 use Rattle.part_gaps.proofs.dropping.drop_points.Tie as tie
 
 returns : tie.Need-returns
-returns c = let rows : tie.After-drop-rows = search in let entry : tie.Start = search in let A = entry.args in
-    let rest = c.before.before.clear-cells in
-    rest_cleared A.t.now rows.drop-rows.last.0 rest.new.0 A.f A.m A.n (omega arith) (omega arith) rows.drop-rows.ensures
+returns c = let rows : tie.After-drop_rows = search in let entry : tie.Start = search in let A = entry.args in
+    let rest = c.clear_cells in
+    rest_cleared A.t.now rows.drop_rows.new.t rest.new.t A.f A.m A.n (omega arith) (omega arith) rows.drop_rows.ensures
     rest.ensures
 
 pub drop_points_spec : {M : Type 1} → statement M

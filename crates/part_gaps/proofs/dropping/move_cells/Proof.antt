@@ -9,18 +9,18 @@ use Rattle.base_lists.specs.Loops.{rewritten}
 use Rattle.part_gaps.proofs.dropping.move_cells.Statement.{statement}
 use Rattle.part_gaps.proofs.dropping.move_cells.Tie as tie
 
-abbrev invariant_loop : tie.invariant_loop
+abbrev invariant_loop : tie.invariant-loop-k
 invariant_loop t₀ to from count k₀ t k = (k ≤ count) × (t ≡ rewritten (λ (i : ℕ). get_or t₀ (from + (i - to)) 0) t₀ to (to + k)) × (length t ≡ cell_count)
 
-abbrev decreases_loop : tie.decreases_loop
+abbrev decreases_loop : tie.decreases-loop-k
 decreases_loop t₀ to from count k₀ t k = count - k
 
-loop-holds : tie.Need-loop-init invariant_loop decreases_loop
+loop-holds : tie.Need-loop-k-init invariant_loop decreases_loop
 loop-holds c = (omega arith, rewritten_none _ _ _ _ (omega arith), omega arith)
 
-loop-again : tie.Need-loop-preserved invariant_loop decreases_loop
+loop-again : tie.Need-loop-k-preserved invariant_loop decreases_loop
 loop-again c = let entry : tie.Start invariant_loop decreases_loop = search in
-    let L = c.before.before.loop in
+    let L = c.loop-k in
     let A = entry.args in
     let f : ℕ → ℕ = λ i. get_or A.t.now (A.from + (i - A.to)) 0 in
     let at = A.to + L.k in
@@ -32,7 +32,7 @@ loop-again c = let entry : tie.Start invariant_loop decreases_loop = search in
     )
 
 returns : tie.Need-returns invariant_loop decreases_loop
-returns c = done _ _ _ _ _ c.before.loop.invariant.1 _ (omega arith)
+returns c = done _ _ _ _ _ c.loop-k.invariant.1 _ (omega arith)
 
 pub move_cells_spec : {M : Type 1} → statement M
 move_cells_spec =

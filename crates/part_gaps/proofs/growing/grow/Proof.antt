@@ -10,38 +10,38 @@ use Rattle.part_gaps.proofs.Grown.{grown_none, grown_next, grown_column}
 use Rattle.part_gaps.proofs.growing.grow.Statement.{statement}
 use Rattle.part_gaps.proofs.growing.grow.Tie as tie
 
-abbrev invariant_loop : tie.invariant_loop
+abbrev invariant_loop : tie.invariant-loop-k
 invariant_loop t₀ n m most k₀ t k = (k ≤ m) × (t ≡ grown t₀ n k most) × (length t ≡ cell_count)
 
-abbrev decreases_loop : tie.decreases_loop
+abbrev decreases_loop : tie.decreases-loop-k
 decreases_loop t₀ n m most k₀ t k = m - k
 
-loop-holds : tie.Need-loop-init invariant_loop decreases_loop
+loop-holds : tie.Need-loop-k-init invariant_loop decreases_loop
 loop-holds c =
-    let A = c.before.args in
+    let A = c.args in
     (omega arith, grown_none A.t.now A.n A.most (omega arith) (omega arith), omega arith)
 
 hang-requires : tie.Need-hang-requires invariant_loop decreases_loop
 hang-requires c κs = let entry : tie.Start invariant_loop decreases_loop = search in let A = entry.args in
-    let L = c.before.before.loop in (
+    let L = c.loop-k in (
       (omega arith, omega arith, omega arith, omega arith),
       λ i h.
           rw L.invariant.1
-          (grown_column A.t.now A.n L.k A.most (omega arith) (omega arith) (bias + bias) (omega arith) entry.pre.1 i h),
+          (grown_column A.t.now A.n L.k A.most (omega arith) (omega arith) (bias + bias) (omega arith) entry.requires.1 i h),
     )
 
-loop-again : tie.Need-loop-preserved invariant_loop decreases_loop
-loop-again c = let at-loop : tie.At-loop invariant_loop decreases_loop = search in let entry : tie.Start invariant_loop decreases_loop = search in
+loop-again : tie.Need-loop-k-preserved invariant_loop decreases_loop
+loop-again c = let at-loop : tie.At-loop-k invariant_loop decreases_loop = search in let entry : tie.Start invariant_loop decreases_loop = search in
     let A = entry.args in (
       omega arith,
-      c.before.before.hang.ensures
-          ∙ grown_next A.t.now at-loop.loop.t A.n at-loop.loop.k A.most (omega arith) (omega arith) (omega arith) at-loop.loop.inv.1,
+      c.hang.ensures
+          ∙ grown_next A.t.now at-loop.loop-k.t A.n at-loop.loop-k.k A.most (omega arith) (omega arith) (omega arith) at-loop.loop-k.invariant.1,
       omega arith,
     )
 
 returns : tie.Need-returns invariant_loop decreases_loop
 returns c = let entry : tie.Start invariant_loop decreases_loop = search in
-    let L = c.before.loop in
+    let L = c.loop-k in
     let e : L.k ≡ entry.args.m = omega arith in
     rw e at L.invariant.1
 

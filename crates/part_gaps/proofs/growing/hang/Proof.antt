@@ -6,14 +6,14 @@ use Rattle.part_gaps.proofs.Grown.{hung_overlaid}
 use Rattle.part_gaps.proofs.growing.hang.Statement.{statement}
 use Rattle.part_gaps.proofs.growing.hang.Tie as tie
 
-same_length : tie.Need-same-length
+same_length : tie.Need-shape_of-t
 same_length c = simp length-set (omega arith)
 
 returns : tie.Need-returns
-returns c = let column : tie.After-hang-column = search in let entry : tie.Start = search in let A = entry.args in
-    let row = c.before.before.hang-row in
-    hung_overlaid A.t.now A.n A.most (omega arith) (omega arith) column.hang-column.last.0 row.new.0 (omega arith)
-    column.hang-column.ensures
+returns c = let column : tie.After-hang_column = search in let entry : tie.Start = search in let A = entry.args in
+    let row = c.hang_row in
+    hung_overlaid A.t.now A.n A.most (omega arith) (omega arith) column.hang_column.new.t row.new.t (omega arith)
+    column.hang_column.ensures
     (omega arith) row.ensures
 
 pub hang_spec : {M : Type 1} → statement M

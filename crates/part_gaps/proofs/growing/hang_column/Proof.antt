@@ -18,23 +18,23 @@ to_origin : (t₀ t : List ℕ) (n most i : ℕ) → t ≡ rewritten (hung_cell 
     → get_or t (i * side) 0 ≡ cell t₀ i 0
 to_origin t₀ t n most i is = ahead _ t₀ t 0 (i * side) is (i * side) (omega arith) ∙ origin_column t₀ i
 
-abbrev invariant_loop : tie.invariant_loop
+abbrev invariant_loop : tie.invariant-loop-i
 invariant_loop t₀ n most i₀ t i = (i ≤ n) × (t ≡ rewritten (hung_cell t₀ n most) t₀ 0 (i * side)) × (length t ≡ cell_count)
 
-abbrev decreases_loop : tie.decreases_loop
+abbrev decreases_loop : tie.decreases-loop-i
 decreases_loop t₀ n most i₀ t i = n - i
 
-loop-holds : tie.Need-loop-init invariant_loop decreases_loop
+loop-holds : tie.Need-loop-i-init invariant_loop decreases_loop
 loop-holds c = (omega arith, rewritten_none _ _ 0 _ (omega arith), omega arith)
 
-add-t : tie.Need-overflow-add-t invariant_loop decreases_loop
+add-t : tie.Need-overflow_add-t invariant_loop decreases_loop
 add-t c = let entry : tie.Start invariant_loop decreases_loop = search in
-    let L = c.before.before.loop in
-    omega (arith, to_origin entry.args.t.now L.t entry.args.n entry.args.most L.i L.invariant.1, entry.pre.1 L.i (omega arith))
+    let L = c.loop-i in
+    omega (arith, to_origin entry.args.t.now L.t entry.args.n entry.args.most L.i L.invariant.1, entry.requires.1 L.i (omega arith))
 
-loop-again : tie.Need-loop-preserved invariant_loop decreases_loop
+loop-again : tie.Need-loop-i-preserved invariant_loop decreases_loop
 loop-again c = let entry : tie.Start invariant_loop decreases_loop = search in
-    let L = c.before.before.loop in
+    let L = c.loop-i in
     let A = entry.args in (
       omega arith,
       column_next A.t.now A.n A.most (omega arith) (omega arith) L.t L.i _ (omega arith) L.invariant.1 (omega arith)
@@ -43,7 +43,7 @@ loop-again c = let entry : tie.Start invariant_loop decreases_loop = search in
     )
 
 returns : tie.Need-returns invariant_loop decreases_loop
-returns c = done _ _ _ 0 _ c.before.loop.invariant.1 _ (omega arith)
+returns c = done _ _ _ 0 _ c.loop-i.invariant.1 _ (omega arith)
 
 pub hang_column_spec : {M : Type 1} → statement M
 hang_column_spec =

@@ -9,18 +9,18 @@ use Rattle.base_lists.specs.Loops.{rewritten}
 use Rattle.part_gaps.proofs.growing.hang_row.Statement.{statement}
 use Rattle.part_gaps.proofs.growing.hang_row.Tie as tie
 
-abbrev invariant_loop : tie.invariant_loop
+abbrev invariant_loop : tie.invariant-loop-j
 invariant_loop t₀ n j₀ t j = (j ≤ n) × (t ≡ rewritten (λ (k : ℕ). get_or t₀ (k % side) 0) t₀ (n * side) (n * side + j)) × (length t ≡ cell_count)
 
-abbrev decreases_loop : tie.decreases_loop
+abbrev decreases_loop : tie.decreases-loop-j
 decreases_loop t₀ n j₀ t j = n - j
 
-loop-holds : tie.Need-loop-init invariant_loop decreases_loop
+loop-holds : tie.Need-loop-j-init invariant_loop decreases_loop
 loop-holds c = (omega arith, rewritten_none _ _ _ _ (omega arith), omega arith)
 
-loop-again : tie.Need-loop-preserved invariant_loop decreases_loop
+loop-again : tie.Need-loop-j-preserved invariant_loop decreases_loop
 loop-again c = let entry : tie.Start invariant_loop decreases_loop = search in
-    let L = c.before.before.loop in
+    let L = c.loop-j in
     let f : ℕ → ℕ = λ k. get_or entry.args.t.now (k % side) 0 in
     let at = entry.args.n * side + L.j in
     let column : at % side ≡ L.j = omega arith in (
@@ -31,7 +31,7 @@ loop-again c = let entry : tie.Start invariant_loop decreases_loop = search in
     )
 
 returns : tie.Need-returns invariant_loop decreases_loop
-returns c = done _ _ _ _ _ c.before.loop.invariant.1 _ (omega arith)
+returns c = done _ _ _ _ _ c.loop-j.invariant.1 _ (omega arith)
 
 pub hang_row_spec : {M : Type 1} → statement M
 hang_row_spec =

@@ -8,11 +8,11 @@ use Rattle.part_lines.proofs.LeavingLaws.{stays_none, stays_one}
 use Rattle.part_lines.proofs.leaving.stay_count.Statement.{statement}
 use Rattle.part_lines.proofs.leaving.stay_count.Tie as tie
 
-returns : tie.Need-returns
-returns c = let A = c.before.before.args in ap {A = List Use} length (sym (stays_none A.f A.m A.u (sym c.before.goes.ensures ∙ c.if1.true)))
+returns : tie.Need-returns-then-goes
+returns c = let A = c.args in ap {A = List Use} length (sym (stays_none A.f A.m A.u (sym c.goes.ensures ∙ c.if-goes.true)))
 
-returns-2 : tie.Need-returns-2
-returns-2 c = let A = c.before.before.args in ap {A = List Use} length (sym (stays_one A.f A.m A.u (sym c.before.goes.ensures ∙ c.if1.false)))
+returns-2 : tie.Need-returns
+returns-2 c = let A = c.args in ap {A = List Use} length (sym (stays_one A.f A.m A.u (sym c.goes.ensures ∙ c.if-goes.false)))
 
 pub stay_count_spec : {M : Type 1} → statement M
 stay_count_spec = tie.close (tie.spec (λ c κs. search rules) returns returns-2)

@@ -10,18 +10,18 @@ use Rattle.part_lines.proofs.LeavingLaws.{stays_none, stays_one}
 use Rattle.part_lines.proofs.leaving.stay_use.Statement.{statement}
 use Rattle.part_lines.proofs.leaving.stay_use.Tie as tie
 
-returns : tie.Need-returns
+returns : tie.Need-returns-then-goes
 returns c = let entry : tie.Start = search in let A = entry.args in
-    c.no-use.ensures ∙ ap (λ (l : List Use). get_or l 0 no_use)
-    (sym (stays_none A.f A.m A.u (sym c.before.before.goes.ensures ∙ c.before.if1.true)))
+    c.no_use.ensures ∙ ap (λ (l : List Use). get_or l 0 no_use)
+    (sym (stays_none A.f A.m A.u (sym c.goes.ensures ∙ c.if-goes.true)))
 
 over-requires : tie.Need-over-requires
-over-requires c κs = sym c.before.goes.ensures ∙ c.if1.false
+over-requires c κs = sym c.goes.ensures ∙ c.if-goes.false
 
-returns-2 : tie.Need-returns-2
+returns-2 : tie.Need-returns
 returns-2 c = let entry : tie.Start = search in let A = entry.args in
     ap (λ (x : ℕ). record { point = x; offset = A.u.offset; length = A.u.length }) c.over.ensures
-    ∙ ap (λ (l : List Use). get_or l 0 no_use) (sym (stays_one A.f A.m A.u (sym c.before.before.goes.ensures ∙ c.before.if1.false)))
+    ∙ ap (λ (l : List Use). get_or l 0 no_use) (sym (stays_one A.f A.m A.u (sym c.goes.ensures ∙ c.if-goes.false)))
 
 pub stay_use_spec : {M : Type 1} → statement M
 stay_use_spec = tie.close (tie.spec (λ c κs. search rules) (λ c κs. search rules) returns over-requires returns-2)

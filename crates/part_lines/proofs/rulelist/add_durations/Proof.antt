@@ -15,17 +15,17 @@ use Rattle.part_lines.proofs.RuleLaws.{Growing, grows, grown, Room_less, duratio
 use Rattle.part_lines.proofs.rulelist.add_durations.Statement.{statement}
 use Rattle.part_lines.proofs.rulelist.add_durations.Tie as tie
 
-abbrev invariant_loop : tie.invariant_loop
+abbrev invariant_loop : tie.invariant-loop-k
 invariant_loop x steps rules₀ at₀ k₀ k-end rules at k = (k ≤ k-end)
     × Growing (rules_of rules₀ ++ durations x (steps_of steps)) rules (durations at (drop k (steps_of steps))) (2 * most_steps - (k + k))
     × (at ≡ x + k)
     × (length steps.steps ≡ most_steps)
     × (length rules.rules ≡ most_rules)
 
-abbrev decreases_loop : tie.decreases_loop
+abbrev decreases_loop : tie.decreases-loop-k
 decreases_loop x steps rules₀ at₀ k₀ k-end rules at k = k-end - k
 
-loop-holds : tie.Need-loop-init invariant_loop decreases_loop
+loop-holds : tie.Need-loop-k-init invariant_loop decreases_loop
 loop-holds c = (
   omega arith,
   record { runs = refl; room = c.requires.0 },
@@ -34,27 +34,27 @@ loop-holds c = (
   search (rules, length_mapped),
 )
 
-loop-again : tie.Need-loop-preserved invariant_loop decreases_loop
-loop-again c = let at-loop : tie.At-loop invariant_loop decreases_loop = search in let entry : tie.Start invariant_loop decreases_loop = search in let L = at-loop.loop in
-    let s = get_or entry.args.t3.steps L.k no_step in
-    let later = drop (L.k + 1) (steps_of entry.args.t3) in
-    let next : durations L.at (drop L.k (steps_of entry.args.t3)) ≡ durations L.at (s ∷ []) ++ durations (L.at + 1) later =
-    ap (durations L.at) (held_next entry.args.t3.count entry.args.t3.steps L.k no_step (omega arith) (omega arith))
+loop-again : tie.Need-loop-k-preserved invariant_loop decreases_loop
+loop-again c = let at-loop : tie.At-loop-k invariant_loop decreases_loop = search in let entry : tie.Start invariant_loop decreases_loop = search in let L = at-loop.loop-k in
+    let s = get_or entry.args.steps.steps L.k no_step in
+    let later = drop (L.k + 1) (steps_of entry.args.steps) in
+    let next : durations L.at (drop L.k (steps_of entry.args.steps)) ≡ durations L.at (s ∷ []) ++ durations (L.at + 1) later =
+    ap (durations L.at) (held_next entry.args.steps.count entry.args.steps.steps L.k no_step (omega arith) (omega arith))
     ∙ durations_next L.at s later
     ∙ ap (λ (i : ℕ). durations L.at (s ∷ []) ++ durations i later) (sym (add-one L.at)) in (
       omega arith,
-      grows _ (durations L.at (s ∷ [])) (durations (L.at + 1) later) 2 (2 * most_steps - (L.k + 1 + (L.k + 1))) L.inv.1 next
-          (durations_stored L.rules L.at s c.before.least-rule.result c.most-rule.result (Room_less L.inv.1.room 2 (omega arith))
-          c.before.least-rule.ensures c.most-rule.ensures) (durations_two L.at s) (omega arith),
+      grows _ (durations L.at (s ∷ [])) (durations (L.at + 1) later) 2 (2 * most_steps - (L.k + 1 + (L.k + 1))) L.invariant.1 next
+          (durations_stored L.rules L.at s c.least_rule.result c.most_rule.result (Room_less L.invariant.1.room 2 (omega arith))
+          c.least_rule.ensures c.most_rule.ensures) (durations_two L.at s) (omega arith),
       omega arith,
-      L.inv.3,
-      simp length-set L.inv.4,
+      L.invariant.3,
+      simp length-set L.invariant.4,
     )
 
 returns : tie.Need-returns invariant_loop decreases_loop
 unfolding durations
-returns c = let L = c.before.loop in
-    let steps = c.before.before.args.t3 in
+returns c = let L = c.loop-k in
+    let steps = c.args.steps in
     grown L.invariant.1 (ap (durations L.at) (held_over steps.count steps.steps L.k (omega arith)))
 
 pub add_durations_spec : {M : Type 1} → statement M

@@ -10,9 +10,9 @@ use Rattle.part_lines.proofs.rulelist.in_order.Tie as tie
 returns : tie.Need-returns
 unfolding in_order
 returns c =
-    let A = c.before.args in
+    let A = c.args in
     let made : ℕ → Rule = λ n. record { early = A.a.point; more = n; late = A.b.point; slack = A.b.offset } in
-    ap made c.end_of_lem.ensures
+    ap made c.end_of.ensures
 
 pub in_order_spec : {M : Type 1} → statement M
 in_order_spec = tie.close (tie.spec (λ c κs. search rules) returns)

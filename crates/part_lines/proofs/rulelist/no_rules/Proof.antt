@@ -14,7 +14,7 @@ use Rattle.part_lines.proofs.rulelist.no_rules.Tie as tie
 returns : tie.Need-returns
 returns c =
     let held : List Rule → Rules = λ l. record { count = 0; rules = l } in
-    ap held (ap (λ (m : Maybe). replicate most_rules m.rule) c.before.no-rule.ensures ∙ padded_none most_rules no_rule)
+    ap held (ap (λ (m : Maybe). replicate most_rules m.rule) c.no_rule-none.ensures ∙ padded_none most_rules no_rule)
 
 pub no_rules_spec : {M : Type 1} → statement M
 no_rules_spec = tie.close (tie.spec (λ c κs. search rules) returns)

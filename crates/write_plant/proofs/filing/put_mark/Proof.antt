@@ -7,13 +7,13 @@ use Rattle.write_plant.proofs.Stored.{sets_four}
 use Rattle.write_plant.proofs.filing.put_mark.Statement.{statement}
 use Rattle.write_plant.proofs.filing.put_mark.Tie as tie
 
-slice-write-s-2 : tie.Need-slice-write-s-2
+slice-write-s-2 : tie.Need-bounds-s-at-2
 slice-write-s-2 c = simp length-set (omega arith)
 
-slice-write-s-3 : tie.Need-slice-write-s-3
+slice-write-s-3 : tie.Need-bounds-s-at-3
 slice-write-s-3 c = simp length-set (omega arith)
 
-slice-write-s-4 : tie.Need-slice-write-s-4
+slice-write-s-4 : tie.Need-bounds-s-at-4
 slice-write-s-4 c = simp length-set (omega arith)
 
 returns : tie.Need-returns

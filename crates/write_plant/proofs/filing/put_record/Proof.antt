@@ -6,10 +6,10 @@ use Rattle.write_plant.proofs.filing.put_record.Tie as tie
 
 returns : tie.Need-returns
 returns c =
-    let entry : tie.Start = search in let six : tie.After-put-words = search in let head : tie.After-put-head = search in
-    let rest : tie.After-put-words2 = search in let A = entry.args in
-    record_stored A.w.now A.s.now A.at A.from A.n _ _ _ entry.pre.2 six.put-words.ensures head.put-head.ensures
-    rest.put-words2.ensures
+    let entry : tie.Start = search in let six : tie.After-put_words = search in let head : tie.After-put_head = search in
+    let rest : tie.After-put_words-2 = search in let A = entry.args in
+    record_stored A.w.now A.s.now A.at A.from A.n _ _ _ entry.requires.2 six.put_words.ensures head.put_head.ensures
+    rest.put_words-2.ensures
 
 pub put_record_spec : {M : Type 1} → statement M
 put_record_spec =

@@ -7,20 +7,20 @@ use Rattle.write_plant.proofs.Stored.{word_stored}
 use Rattle.write_plant.proofs.filing.put_word.Statement.{statement}
 use Rattle.write_plant.proofs.filing.put_word.Tie as tie
 
-slice-write-s-2 : tie.Need-slice-write-s-2
+slice-write-s-2 : tie.Need-bounds-s-at-2
 slice-write-s-2 c = simp length-set (omega arith)
 
-slice-write-s-3 : tie.Need-slice-write-s-3
+slice-write-s-3 : tie.Need-bounds-s-at-3
 slice-write-s-3 c = simp length-set (omega arith)
 
-slice-write-s-4 : tie.Need-slice-write-s-4
+slice-write-s-4 : tie.Need-bounds-s-at-4
 slice-write-s-4 c = simp length-set (omega arith)
 
 returns : tie.Need-returns
 returns c =
-    let entry : tie.Start = search in let one : tie.After-low = search in let two : tie.After-low2 = search in let three : tie.After-low3 = search in
+    let entry : tie.Start = search in let one : tie.After-low = search in let two : tie.After-low-2 = search in let three : tie.After-low-3 = search in
     let A = entry.args in
-    word_stored A.s.now A.at A.v _ _ _ _ one.low.ensures two.low2.ensures three.low3.ensures c.low4.ensures
+    word_stored A.s.now A.at A.v _ _ _ _ one.low.ensures two.low-2.ensures three.low-3.ensures c.low-4.ensures
 
 pub put_word_spec : {M : Type 1} → statement M
 put_word_spec =

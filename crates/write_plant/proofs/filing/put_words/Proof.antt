@@ -10,31 +10,31 @@ use Rattle.write_plant.proofs.Stored.{words_turn}
 use Rattle.write_plant.proofs.filing.put_words.Statement.{statement}
 use Rattle.write_plant.proofs.filing.put_words.Tie as tie
 
-abbrev invariant_loop : tie.invariant_loop
+abbrev invariant_loop : tie.invariant-loop-k
 invariant_loop s₀ at w from n k₀ s k = (k ≤ n) × (s ≡ sets s₀ at (u32s (build (λ i. get_or w (from + i) 0) k))) × (length s ≡ length s₀)
 
-abbrev decreases_loop : tie.decreases_loop
+abbrev decreases_loop : tie.decreases-loop-k
 decreases_loop s₀ at w from n k₀ s k = n - k
 
-loop-holds : tie.Need-loop-init invariant_loop decreases_loop
+loop-holds : tie.Need-loop-k-init invariant_loop decreases_loop
 unfolding build
 loop-holds c = (omega arith, refl, refl)
 
-loop-again : tie.Need-loop-preserved invariant_loop decreases_loop
+loop-again : tie.Need-loop-k-preserved invariant_loop decreases_loop
 loop-again c =
-    let turn : tie.At-loop invariant_loop decreases_loop = search in let entry : tie.Start invariant_loop decreases_loop = search in
-    let stored : tie.After-put-word invariant_loop decreases_loop = search in
-    let A = entry.args in let L = turn.loop in
+    let turn : tie.At-loop-k invariant_loop decreases_loop = search in let entry : tie.Start invariant_loop decreases_loop = search in
+    let stored : tie.After-put_word invariant_loop decreases_loop = search in
+    let A = entry.args in let L = turn.loop-k in
     let f : ℕ → ℕ = λ i. get_or A.w.now (A.from + i) 0 in (
       omega arith,
-      words_turn A.s.now A.at f L.k _ L.s _ L.inv.1 (omega arith) stored.put_word.ensures,
+      words_turn A.s.now A.at f L.k _ L.s _ L.invariant.1 (omega arith) stored.put_word.ensures,
       omega arith,
     )
 
 returns : tie.Need-returns invariant_loop decreases_loop
 returns c =
     let entry : tie.Start invariant_loop decreases_loop = search in let A = entry.args in
-    let L = c.before.loop in
+    let L = c.loop-k in
     let e : L.k ≡ A.n = omega arith in
     L.invariant.1 ∙ ap (λ (k : ℕ). sets A.s.now A.at (u32s (build (λ i. get_or A.w.now (A.from + i) 0) k))) e
 

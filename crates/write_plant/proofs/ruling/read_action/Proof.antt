@@ -5,22 +5,22 @@ use Rattle.write_plant.proofs.Measured.{not_few, not_right, ends_at}
 use Rattle.write_plant.proofs.ruling.read_action.Statement.{statement}
 use Rattle.write_plant.proofs.ruling.read_action.Tie as tie
 
-returns : tie.Need-returns
+returns : tie.Need-returns-then-n-gt4
 returns c =
-    let entry : tie.Start = search in let number : tie.After-wide = search in let A = entry.args in
-    not_few A.w.now A.action A.start _ number.wide.ensures c.if1.true
+    let entry : tie.Start = search in let number : tie.After-wide-n = search in let A = entry.args in
+    not_few A.w.now A.action A.start _ number.wide-n.ensures c.if-n-gt4.true
 
-returns-2 : tie.Need-returns-2
+returns-2 : tie.Need-returns-then-is_bad_fields
 returns-2 c =
-    let entry : tie.Start = search in let number : tie.After-wide = search in let one : tie.Else1 = search in
-    let tested : tie.After-is-bad-fields = search in let A = entry.args in
-    not_right A.w.now A.action A.start _ number.wide.ensures one.if1.left (sym tested.is-bad-fields.ensures ∙ c.if2.true)
+    let entry : tie.Start = search in let number : tie.After-wide-n = search in let one : tie.Else-n-gt4 = search in
+    let tested : tie.After-is_bad_fields = search in let A = entry.args in
+    not_right A.w.now A.action A.start _ number.wide-n.ensures one.if-n-gt4.false (sym tested.is_bad_fields.ensures ∙ c.if-is_bad_fields.true)
 
-returns-3 : tie.Need-returns-3
+returns-3 : tie.Need-returns
 returns-3 c =
-    let entry : tie.Start = search in let number : tie.After-wide = search in let one : tie.Else1 = search in let two : tie.Else2 = search in
-    let tested : tie.After-is-bad-fields = search in let A = entry.args in
-    ends_at A.w.now A.action A.start _ number.wide.ensures one.if1.left (sym tested.is-bad-fields.ensures ∙ two.if2.left)
+    let entry : tie.Start = search in let number : tie.After-wide-n = search in let one : tie.Else-n-gt4 = search in let two : tie.Else-is_bad_fields = search in
+    let tested : tie.After-is_bad_fields = search in let A = entry.args in
+    ends_at A.w.now A.action A.start _ number.wide-n.ensures one.if-n-gt4.false (sym tested.is_bad_fields.ensures ∙ two.if-is_bad_fields.false)
 
 pub read_action_spec : {M : Type 1} → statement M
 read_action_spec =
