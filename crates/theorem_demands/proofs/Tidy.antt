@@ -69,19 +69,19 @@ pub runs_keep :
     {bd : Board} {bk : Book} → Sim bd bk → (cs : List Call) (rs : List Ruling) (k : Book) → Runs bk cs rs k
     → (rs ≡ rulings bd cs) × Sim (board_after bd cs) k
 unfolding Runs rulings board_after
-runs_keep m [] rs k p = (p.0, rw p.1 m)
-runs_keep m (c ∷ cs) rs k p =
+runs_keep {bd = bd} {bk = bk} m [] rs k p = (p.0, rw p.1 m)
+runs_keep {bd = bd} {bk = bk} m (c ∷ cs) rs k p =
     let q = sim_keeps m c p.0 p.1 p.3 in
-    let t = runs_keep (sim_tidied q.1) cs p.2 k p.5 in
+    let t = runs_keep {bd = tidied (step bd c).board} {bk = p.1} (sim_tidied q.1) cs p.2 k p.5 in
     (p.4 ∙ ap₂ ◌∷◌ q.0 t.0, t.1)
 
 pub runs_exist : {bd : Board} {bk : Book} → Sim bd bk → (cs : List Call) → (k : Book) × Runs bk cs (rulings bd cs) k
 unfolding Runs rulings
-runs_exist {bd} {bk} m [] = (bk, (refl, refl))
-runs_exist {bd} {bk} m (c ∷ cs) =
+runs_exist {bd = bd} {bk = bk} m [] = (bk, (refl, refl))
+runs_exist {bd = bd} {bk = bk} m (c ∷ cs) =
     let e = sim_exists m c in
     let q = sim_keeps m c (step bd c).ruling e.0 e.1 in
-    let t = runs_exist (sim_tidied q.1) cs in
+    let t = runs_exist {bd = tidied (step bd c).board} {bk = e.0} (sim_tidied q.1) cs in
     (t.0, ((step bd c).ruling, e.0, rulings (tidied (step bd c).board) cs, e.1, refl, t.1))
 
 pub fresh_exists : (s : Settings) → s.horizon ≤ bias → (cs : List Call) → (k : Book) × Runs (Rulebook.fresh s) cs (rulings (Model.fresh s) cs) k

@@ -6,9 +6,9 @@ use Rattle.part_offered.proofs.allocation_at.Statement.{statement}
 use Rattle.part_offered.proofs.allocation_at.Tie as tie
 
 returns : tie.Need-returns
-returns c = let at-u32-at : tie.After-u32-at = search in let entry : tie.Start = search in
-    allocation_is _ _ _ _ _ _ _ _ _ _ entry.pre.0.0 entry.pre.0.1 at-u32-at.u32-at.ensures c.before.before.u32-at2.ensures
-    c.before.u32-at3.ensures c.u32-at4.ensures
+returns c = let at-u32-at : tie.After-u32_at = search in let entry : tie.Start = search in
+    allocation_is _ _ _ _ _ _ _ _ _ _ entry.requires.0.0 entry.requires.0.1 at-u32-at.u32_at.ensures c.u32_at-2.ensures
+    c.u32_at-3.ensures c.u32_at-4.ensures
 
 pub allocation_at_spec : {M : Type 1} → statement M
 allocation_at_spec =

@@ -23,7 +23,7 @@ use Rattle.part_offered.proofs.StepLaws.{
 use Rattle.part_offered.proofs.read_allocations.Statement.{statement}
 use Rattle.part_offered.proofs.read_allocations.Tie as tie
 
-abbrev invariant_loop : tie.invariant_loop
+abbrev invariant_loop : tie.invariant-loop-k
 invariant_loop plant t offer puts₀ count many₀ at₀ k₀ allocations many at k =
     (k ≤ count)
     × (at ≡ step_start plant offer k)
@@ -33,80 +33,80 @@ invariant_loop plant t offer puts₀ count many₀ at₀ k₀ allocations many a
     × (count ≡ step_count offer)
     × (count ≤ most_steps)
 
-abbrev decreases_loop : tie.decreases_loop
+abbrev decreases_loop : tie.decreases-loop-k
 decreases_loop plant t offer puts₀ count many₀ at₀ k₀ allocations many at k = count - k
 
-u32-at-requires : tie.Need-u32-at-requires invariant_loop decreases_loop
+u32-at-requires : tie.Need-u32_at-count-requires invariant_loop decreases_loop
 u32-at-requires c κs = let entry : tie.Start invariant_loop decreases_loop = search in
-    let long = (read_of _ _ entry.pre.2).long in
+    let long = (read_of _ _ entry.requires.2).long in
     omega (arith, long)
 
-loop-holds : tie.Need-loop-init invariant_loop decreases_loop
-loop-holds c = let entry : tie.Start invariant_loop decreases_loop = search in let e = c.u32-at.ensures in
-    let f = (read_of _ _ entry.pre.2).few in
+loop-holds : tie.Need-loop-k-init invariant_loop decreases_loop
+loop-holds c = let entry : tie.Start invariant_loop decreases_loop = search in let e = c.u32_at-count.ensures in
+    let f = (read_of _ _ entry.requires.2).few in
     (omega arith, first_start _ _, puts_none _ _ entry.args.allocations.now, omega arith, omega arith, e, omega (arith, e, f))
 
-u32-at-requires-2 : tie.Need-u32-at-requires-2 invariant_loop decreases_loop
+u32-at-requires-2 : tie.Need-u32_at-action-requires invariant_loop decreases_loop
 u32-at-requires-2 c κs = let entry : tie.Start invariant_loop decreases_loop = search in
-    let L = c.before.loop in action_within _ _ _ _ entry.pre.2 (omega arith) L.invariant.1
+    let L = c.loop-k in action_within _ _ _ _ entry.requires.2 (omega arith) L.invariant.1
 
-start-of-requires : tie.Need-start-of-requires invariant_loop decreases_loop
+start-of-requires : tie.Need-start_of-start-requires invariant_loop decreases_loop
 start-of-requires c κs = let entry : tie.Start invariant_loop decreases_loop = search in
-    let L = c.before.before.loop in
-    (entry.pre.0, entry.pre.1, action_known _ _ _ _ entry.pre.2 (omega arith) L.invariant.1 _ _ entry.pre.1 c.u32-at2.ensures)
+    let L = c.loop-k in
+    (entry.requires.0, entry.requires.1, action_known _ _ _ _ entry.requires.2 (omega arith) L.invariant.1 _ _ entry.requires.1 c.u32_at-action.ensures)
 
-allocation-count-requires : tie.Need-allocation-count-requires invariant_loop decreases_loop
+allocation-count-requires : tie.Need-allocation_count-n-requires invariant_loop decreases_loop
 allocation-count-requires c κs =
-    let at-loop : tie.At-loop invariant_loop decreases_loop = search in let entry : tie.Start invariant_loop decreases_loop = search in let L = at-loop.loop in
-    (entry.pre.0, entry.pre.1, action_known _ _ _ _ entry.pre.2 (omega arith) L.inv.1 _ _ entry.pre.1 c.before.u32-at2.ensures)
+    let at-loop : tie.At-loop-k invariant_loop decreases_loop = search in let entry : tie.Start invariant_loop decreases_loop = search in let L = at-loop.loop-k in
+    (entry.requires.0, entry.requires.1, action_known _ _ _ _ entry.requires.2 (omega arith) L.invariant.1 _ _ entry.requires.1 c.u32_at-action.ensures)
 
-push-step-requires : tie.Need-push-step-requires invariant_loop decreases_loop
-push-step-requires c κs = let at-u32-at2 : tie.After-u32-at2 invariant_loop decreases_loop = search in let at-loop : tie.At-loop invariant_loop decreases_loop = search in
+push-step-requires : tie.Need-push_step-requires invariant_loop decreases_loop
+push-step-requires c κs = let at-u32-at2 : tie.After-u32_at-action invariant_loop decreases_loop = search in let at-loop : tie.At-loop-k invariant_loop decreases_loop = search in
     let entry : tie.Start invariant_loop decreases_loop = search in
-    let below : at-loop.loop.k < step_count entry.args.offer.now = omega arith in
-    let start = c.before.before.start_of_lem.ensures in
-    let n = count_at _ _ _ _ c.before.allocation-count.ensures.0 start.0 in (
-      (record_is _ _ _ _ entry.pre.2 below at-loop.loop.inv.1 _ _ at-u32-at2.u32-at2.ensures start.0, at-loop.loop.inv.1),
+    let below : at-loop.loop-k.k < step_count entry.args.offer.now = omega arith in
+    let start = c.start_of-start.ensures in
+    let n = count_at _ _ _ _ c.allocation_count-n.ensures.0 start.0 in (
+      (record_is _ _ _ _ entry.requires.2 below at-loop.loop-k.invariant.1 _ _ at-u32-at2.u32_at-action.ensures start.0, at-loop.loop-k.invariant.1),
       (
         omega (arith, n),
-        step_within _ _ _ _ entry.pre.2 below at-loop.loop.inv.1 _ _ at-u32-at2.u32-at2.ensures start.0 _ n,
+        step_within _ _ _ _ entry.requires.2 below at-loop.loop-k.invariant.1 _ _ at-u32-at2.u32_at-action.ensures start.0 _ n,
         omega arith,
       ),
     )
 
-add_at : tie.Need-overflow-add-at invariant_loop decreases_loop
-add_at c = let at-loop : tie.At-loop invariant_loop decreases_loop = search in let entry : tie.Start invariant_loop decreases_loop = search in
-    let w = action_within _ _ _ _ entry.pre.2 (omega arith) at-loop.loop.inv.1 in
+add_at : tie.Need-overflow_add-at invariant_loop decreases_loop
+add_at c = let at-loop : tie.At-loop-k invariant_loop decreases_loop = search in let entry : tie.Start invariant_loop decreases_loop = search in
+    let w = action_within _ _ _ _ entry.requires.2 (omega arith) at-loop.loop-k.invariant.1 in
     omega (arith, w)
 
-add-at-2 : tie.Need-overflow-add-at-2 invariant_loop decreases_loop
+add-at-2 : tie.Need-overflow_add-at-in-loop-k invariant_loop decreases_loop
 add-at-2 c =
-    let at-allocation-count : tie.After-allocation-count invariant_loop decreases_loop = search in let at-start-of : tie.After-start-of invariant_loop decreases_loop = search in
-    let at-u32-at2 : tie.After-u32-at2 invariant_loop decreases_loop = search in let at-loop : tie.At-loop invariant_loop decreases_loop = search in
-    let entry : tie.Start invariant_loop decreases_loop = search in let start = at-start-of.start_of_lem.ensures in
-    let n = count_at _ _ _ _ at-allocation-count.allocation-count.ensures.0 start.0 in
-    let w = step_within _ _ _ _ entry.pre.2 (omega arith) at-loop.loop.inv.1 _ _ at-u32-at2.u32-at2.ensures start.0 _ n in
+    let at-allocation-count : tie.After-allocation_count-n invariant_loop decreases_loop = search in let at-start-of : tie.After-start_of-start invariant_loop decreases_loop = search in
+    let at-u32-at2 : tie.After-u32_at-action invariant_loop decreases_loop = search in let at-loop : tie.At-loop-k invariant_loop decreases_loop = search in
+    let entry : tie.Start invariant_loop decreases_loop = search in let start = at-start-of.start_of-start.ensures in
+    let n = count_at _ _ _ _ at-allocation-count.allocation_count-n.ensures.0 start.0 in
+    let w = step_within _ _ _ _ entry.requires.2 (omega arith) at-loop.loop-k.invariant.1 _ _ at-u32-at2.u32_at-action.ensures start.0 _ n in
     omega (arith, w)
 
-loop-again : tie.Need-loop-preserved invariant_loop decreases_loop
+loop-again : tie.Need-loop-k-preserved invariant_loop decreases_loop
 loop-again c =
-    let at-allocation-count : tie.After-allocation-count invariant_loop decreases_loop = search in let at-start-of : tie.After-start-of invariant_loop decreases_loop = search in
-    let at-u32-at2 : tie.After-u32-at2 invariant_loop decreases_loop = search in let at-loop : tie.At-loop invariant_loop decreases_loop = search in
+    let at-allocation-count : tie.After-allocation_count-n invariant_loop decreases_loop = search in let at-start-of : tie.After-start_of-start invariant_loop decreases_loop = search in
+    let at-u32-at2 : tie.After-u32_at-action invariant_loop decreases_loop = search in let at-loop : tie.At-loop-k invariant_loop decreases_loop = search in
     let entry : tie.Start invariant_loop decreases_loop = search in
-    let below : at-loop.loop.k < step_count entry.args.offer.now = omega arith in
-    let n = count_at _ _ _ _ at-allocation-count.allocation-count.ensures.0 at-start-of.start_of_lem.ensures.0 in
-    let here = record_is _ _ _ _ entry.pre.2 below at-loop.loop.inv.1 _ _ at-u32-at2.u32-at2.ensures at-start-of.start_of_lem.ensures.0 in (
+    let below : at-loop.loop-k.k < step_count entry.args.offer.now = omega arith in
+    let n = count_at _ _ _ _ at-allocation-count.allocation_count-n.ensures.0 at-start-of.start_of-start.ensures.0 in
+    let here = record_is _ _ _ _ entry.requires.2 below at-loop.loop-k.invariant.1 _ _ at-u32-at2.u32_at-action.ensures at-start-of.start_of-start.ensures.0 in (
       omega arith,
-      next_at _ _ _ _ entry.pre.2 below at-loop.loop.inv.1 _ _ at-u32-at2.u32-at2.ensures at-start-of.start_of_lem.ensures.0 _ n,
-      puts_next _ _ _ _ _ _ _ at-loop.loop.inv.2 c.before.before.push_step.ensures here n,
+      next_at _ _ _ _ entry.requires.2 below at-loop.loop-k.invariant.1 _ _ at-u32-at2.u32_at-action.ensures at-start-of.start_of-start.ensures.0 _ n,
+      puts_next _ _ _ _ _ _ _ at-loop.loop-k.invariant.2 c.push_step.ensures here n,
       omega arith,
       omega arith,
-      at-loop.loop.inv.5,
-      at-loop.loop.inv.6,
+      at-loop.loop-k.invariant.5,
+      at-loop.loop-k.invariant.6,
     )
 
 returns : tie.Need-returns invariant_loop decreases_loop
-returns c = puts_done _ _ _ _ c.before.loop.invariant.2 (omega arith)
+returns c = puts_done _ _ _ _ c.loop-k.invariant.2 (omega arith)
 
 pub read_allocations_spec : {M : Type 1} → statement M
 read_allocations_spec =

@@ -16,69 +16,69 @@ use borrow.Author.Rules.{rules}
 use Rattle.part_offered.proofs.read_durations.Statement.{statement}
 use Rattle.part_offered.proofs.read_durations.Tie as tie
 
-abbrev invariant_loop : tie.invariant_loop
+abbrev invariant_loop : tie.invariant-loop-k
 invariant_loop plant t offer count held₀ at₀ k₀ held at k =
     (k ≤ count) × (held.count ≡ count) × (at ≡ step_start plant offer k) × (held.steps ≡ padded most_steps no_step (steps_from plant offer 0 k))
     × (count ≡ step_count offer) × (count ≤ most_steps)
 
-abbrev decreases_loop : tie.decreases_loop
+abbrev decreases_loop : tie.decreases-loop-k
 decreases_loop plant t offer count held₀ at₀ k₀ held at k = count - k
 
-offset-at-requires : tie.Need-offset-at-requires invariant_loop decreases_loop
+offset-at-requires : tie.Need-offset_at-count-requires invariant_loop decreases_loop
 offset-at-requires c κs = let entry : tie.Start invariant_loop decreases_loop = search in
-    let long = (read_of _ _ entry.pre.2).long in
+    let long = (read_of _ _ entry.requires.2).long in
     omega (arith, long)
 
-loop-holds : tie.Need-loop-init invariant_loop decreases_loop
+loop-holds : tie.Need-loop-k-init invariant_loop decreases_loop
 loop-holds c = let entry : tie.Start invariant_loop decreases_loop = search in
-    let e = c.offset_at.ensures.0 in
-    let f = (read_of _ _ entry.pre.2).few in
-    (omega arith, refl, first_start _ _, ap (λ (z : Step). replicate most_steps z) c.before.no_step.ensures ∙ steps_none _ _, e, omega (arith, e, f))
+    let e = c.offset_at-count.ensures.0 in
+    let f = (read_of _ _ entry.requires.2).few in
+    (omega arith, refl, first_start _ _, ap (λ (z : Step). replicate most_steps z) c.no_step-none.ensures ∙ steps_none _ _, e, omega (arith, e, f))
 
-u32-at-requires : tie.Need-u32-at-requires invariant_loop decreases_loop
+u32-at-requires : tie.Need-u32_at-requires invariant_loop decreases_loop
 u32-at-requires c κs = let entry : tie.Start invariant_loop decreases_loop = search in
-    let e = c.before.loop.invariant.4 in action_within _ _ _ _ entry.pre.2 (omega (arith, e)) c.before.loop.invariant.2
+    let e = c.loop-k.invariant.4 in action_within _ _ _ _ entry.requires.2 (omega (arith, e)) c.loop-k.invariant.2
 
-start-of-requires : tie.Need-start-of-requires invariant_loop decreases_loop
-start-of-requires c κs = let at-loop : tie.At-loop invariant_loop decreases_loop = search in let entry : tie.Start invariant_loop decreases_loop = search in
-    let e = at-loop.loop.inv.4 in
-    (entry.pre.0, entry.pre.1, action_known _ _ _ _ entry.pre.2 (omega (arith, e)) at-loop.loop.inv.2 _ _ entry.pre.1 c.u32-at.ensures)
+start-of-requires : tie.Need-start_of-start-requires invariant_loop decreases_loop
+start-of-requires c κs = let at-loop : tie.At-loop-k invariant_loop decreases_loop = search in let entry : tie.Start invariant_loop decreases_loop = search in
+    let e = at-loop.loop-k.invariant.4 in
+    (entry.requires.0, entry.requires.1, action_known _ _ _ _ entry.requires.2 (omega (arith, e)) at-loop.loop-k.invariant.2 _ _ entry.requires.1 c.u32_at.ensures)
 
-step-at-requires : tie.Need-step-at-requires invariant_loop decreases_loop
-step-at-requires c κs = let w = c.start_of_lem.ensures.1 in omega (arith, w)
+step-at-requires : tie.Need-step_at-requires invariant_loop decreases_loop
+step-at-requires c κs = let w = c.start_of-start.ensures.1 in omega (arith, w)
 
-add_at : tie.Need-overflow-add-at invariant_loop decreases_loop
-add_at c = let at-loop : tie.At-loop invariant_loop decreases_loop = search in let entry : tie.Start invariant_loop decreases_loop = search in
-    let w = action_within _ _ _ _ entry.pre.2 (omega (arith, at-loop.loop.inv.4)) at-loop.loop.inv.2 in omega (arith, w)
+add_at : tie.Need-overflow_add-at invariant_loop decreases_loop
+add_at c = let at-loop : tie.At-loop-k invariant_loop decreases_loop = search in let entry : tie.Start invariant_loop decreases_loop = search in
+    let w = action_within _ _ _ _ entry.requires.2 (omega (arith, at-loop.loop-k.invariant.4)) at-loop.loop-k.invariant.2 in omega (arith, w)
 
-byte-at-requires : tie.Need-byte-at-requires invariant_loop decreases_loop
-byte-at-requires c κs = let w = c.before.start_of_lem.ensures.1 in omega (arith, w)
+byte-at-requires : tie.Need-byte_at-requires invariant_loop decreases_loop
+byte-at-requires c κs = let w = c.start_of-start.ensures.1 in omega (arith, w)
 
-add-at-2 : tie.Need-overflow-add-at-2 invariant_loop decreases_loop
-add-at-2 c = let at-u32-at : tie.After-u32-at invariant_loop decreases_loop = search in let at-loop : tie.At-loop invariant_loop decreases_loop = search in
+add-at-2 : tie.Need-overflow_add-at-in-loop-k invariant_loop decreases_loop
+add-at-2 c = let at-u32-at : tie.After-u32_at invariant_loop decreases_loop = search in let at-loop : tie.At-loop-k invariant_loop decreases_loop = search in
     let entry : tie.Start invariant_loop decreases_loop = search in
-    let e = at-loop.loop.inv.4 in
-    let w = step_within _ _ _ _ entry.pre.2 (omega (arith, e)) at-loop.loop.inv.2 _ _ at-u32-at.u32-at.ensures
-    c.before.before.start_of_lem.ensures.0 _ c.byte_at.ensures.0 in
+    let e = at-loop.loop-k.invariant.4 in
+    let w = step_within _ _ _ _ entry.requires.2 (omega (arith, e)) at-loop.loop-k.invariant.2 _ _ at-u32-at.u32_at.ensures
+    c.start_of-start.ensures.0 _ c.byte_at.ensures.0 in
     omega (arith, w)
 
-loop-again : tie.Need-loop-preserved invariant_loop decreases_loop
-loop-again c = let at-start-of : tie.After-start-of invariant_loop decreases_loop = search in let at-u32-at : tie.After-u32-at invariant_loop decreases_loop = search in
-    let at-loop : tie.At-loop invariant_loop decreases_loop = search in let entry : tie.Start invariant_loop decreases_loop = search in
-    let e = at-loop.loop.inv.4 in
-    let r = record_is _ _ _ _ entry.pre.2 (omega (arith, e)) at-loop.loop.inv.2 _ _ at-u32-at.u32-at.ensures
-    at-start-of.start_of_lem.ensures.0 in (
+loop-again : tie.Need-loop-k-preserved invariant_loop decreases_loop
+loop-again c = let at-start-of : tie.After-start_of-start invariant_loop decreases_loop = search in let at-u32-at : tie.After-u32_at invariant_loop decreases_loop = search in
+    let at-loop : tie.At-loop-k invariant_loop decreases_loop = search in let entry : tie.Start invariant_loop decreases_loop = search in
+    let e = at-loop.loop-k.invariant.4 in
+    let r = record_is _ _ _ _ entry.requires.2 (omega (arith, e)) at-loop.loop-k.invariant.2 _ _ at-u32-at.u32_at.ensures
+    at-start-of.start_of-start.ensures.0 in (
       omega arith,
-      at-loop.loop.inv.1,
-      next_at _ _ _ _ entry.pre.2 (omega (arith, e)) at-loop.loop.inv.2 _ _ at-u32-at.u32-at.ensures at-start-of.start_of_lem.ensures.0 _
+      at-loop.loop-k.invariant.1,
+      next_at _ _ _ _ entry.requires.2 (omega (arith, e)) at-loop.loop-k.invariant.2 _ _ at-u32-at.u32_at.ensures at-start-of.start_of-start.ensures.0 _
           c.byte_at.ensures.0,
-      steps_next _ _ _ _ _ _ at-loop.loop.inv.3 (omega arith) r c.before.step-at.ensures.0 c.before.step-at.ensures.1,
+      steps_next _ _ _ _ _ _ at-loop.loop-k.invariant.3 (omega arith) r c.step_at.ensures.0 c.step_at.ensures.1,
       e,
-      at-loop.loop.inv.5,
+      at-loop.loop-k.invariant.5,
     )
 
 returns : tie.Need-returns invariant_loop decreases_loop
-returns c = let e = c.before.loop.invariant.4 in steps_done _ _ _ _ (omega arith) c.before.loop.invariant.3 (omega (arith, e))
+returns c = let e = c.loop-k.invariant.4 in steps_done _ _ _ _ (omega arith) c.loop-k.invariant.3 (omega (arith, e))
 
 pub read_durations_spec : {M : Type 1} → statement M
 read_durations_spec =

@@ -16,26 +16,26 @@ use Rattle.part_settling.proofs.grow_or_put.Tie as tie
 
 grow-requires : tie.Need-grow-requires
 grow-requires c κs = let entry : tie.Start = search in
-    ((entry.pre.0.0, entry.pre.0.1, entry.pre.0.2, entry.pre.0.3), λ i h. entry.pre.0.4.bounded i 0 h entry.pre.0.1)
+    ((entry.requires.0.0, entry.requires.0.1, entry.requires.0.2, entry.requires.0.3), λ i h. entry.requires.0.4.bounded i 0 h entry.requires.0.1)
 
-add-or-put-requires : tie.Need-add-or-put-requires
-add-or-put-requires c κs = let at-grow : tie.After-grow = search in let entry : tie.Start = search in let p = entry.pre.0 in
+add-or-put-requires : tie.Need-add_or_put-requires
+add-or-put-requires c κs = let at-grow : tie.After-grow = search in let entry : tie.Start = search in let p = entry.requires.0 in
     let e = at-grow.grow.ensures in (
       (
         ap length e ∙ grown_length entry.args.t.now entry.args.n entry.args.m entry.args.most p.0 p.2,
         p.2,
         rw e (grown_closed entry.args.t.now entry.args.n entry.args.m entry.args.most p.0 p.1 p.2 p.3 p.4),
       ),
-      entry.pre.1,
+      entry.requires.1,
     )
 
 returns : tie.Need-returns
-returns c = let grew : tie.After-grow = search in let entry : tie.Start = search in let A = entry.args in let p = entry.pre.0 in
-    let tried = c.before.before.add-or-put in
+returns c = let grew : tie.After-grow = search in let entry : tie.Start = search in let A = entry.args in let p = entry.requires.0 in
+    let tried = c.add_or_put in
     let cells : ℕ → ℕ = λ k. get_or A.old.now k 0 in (
       tried.ensures.0 ∙ ap (λ (l : List ℕ). added_all (rules_of A.rules) (A.n + A.m) l) grew.grow.ensures,
       λ e.
-          live_put cells A.t.now grew.grow.last.0 _ ((A.n + A.m) * side) (omega arith)
+          live_put cells A.t.now grew.grow.new.t _ ((A.n + A.m) * side) (omega arith)
           (λ k h. ap (λ (w : List ℕ). get_or w k 0) grew.grow.ensures ∙ grown_past A.t.now A.n A.m A.most p.0 p.2 k h)
           (tried.ensures.1 e),
     )

@@ -10,42 +10,42 @@ use Rattle.part_gaps.proofs.Copied.{put_back, few_kept}
 use Rattle.part_settling.proofs.try_grown.Statement.{statement}
 use Rattle.part_settling.proofs.try_grown.Tie as tie
 
-grow-or-put-requires : tie.Need-grow-or-put-requires
+grow-or-put-requires : tie.Need-grow_or_put-requires
 grow-or-put-requires c κs = let entry : tie.Start = search in
-    let size : length c.before.before.fewest-cells.result ≡ 520 = search rules in
-    (entry.pre.0, (entry.pre.1, omega (arith, size)))
+    let size : length c.fewest_cells-few.result ≡ 520 = search rules in
+    (entry.requires.0, (entry.requires.1, omega (arith, size)))
 
-returns : tie.Need-returns
-returns c = let kept : tie.After-fewest-cells = search in let entry : tie.Start = search in let A = entry.args in
-    let tried = c.before.before.grow-or-put.ensures in (
+returns : tie.Need-returns-then-n-m-le-FEWEST_POINTS
+returns c = let kept : tie.After-fewest_cells-few = search in let entry : tie.Start = search in let A = entry.args in
+    let tried = c.grow_or_put.ensures in (
       tried.0,
-      λ e. put_back A.t.now kept.fewest-cells.result _ ((A.n + A.m) * side)
-          (λ k h. few_kept A.t.now kept.fewest-cells.result 520 kept.fewest-cells.ensures k (omega arith)) (tried.1 e),
+      λ e. put_back A.t.now kept.fewest_cells-few.result _ ((A.n + A.m) * side)
+          (λ k h. few_kept A.t.now kept.fewest_cells-few.result 520 kept.fewest_cells-few.ensures k (omega arith)) (tried.1 e),
     )
 
-grow-or-put-requires-2 : tie.Need-grow-or-put-requires-2
+grow-or-put-requires-2 : tie.Need-grow_or_put-requires-then-n-m-le-FEW_POINTS
 grow-or-put-requires-2 c κs = let entry : tie.Start = search in
-    let size : length c.before.before.few-cells.result ≡ 1040 = search rules in
-    (entry.pre.0, (entry.pre.1, omega (arith, size)))
+    let size : length c.few_cells-few.result ≡ 1040 = search rules in
+    (entry.requires.0, (entry.requires.1, omega (arith, size)))
 
-returns-2 : tie.Need-returns-2
-returns-2 c = let kept : tie.After-few-cells = search in let entry : tie.Start = search in let A = entry.args in
-    let tried = c.before.before.grow-or-put2.ensures in (
+returns-2 : tie.Need-returns-then-n-m-le-FEW_POINTS
+returns-2 c = let kept : tie.After-few_cells-few = search in let entry : tie.Start = search in let A = entry.args in
+    let tried = c.grow_or_put-then-n-m-le-FEW_POINTS.ensures in (
       tried.0,
-      λ e. put_back A.t.now kept.few-cells.result _ ((A.n + A.m) * side)
-          (λ k h. few_kept A.t.now kept.few-cells.result 1040 kept.few-cells.ensures k (omega arith)) (tried.1 e),
+      λ e. put_back A.t.now kept.few_cells-few.result _ ((A.n + A.m) * side)
+          (λ k h. few_kept A.t.now kept.few_cells-few.result 1040 kept.few_cells-few.ensures k (omega arith)) (tried.1 e),
     )
 
-grow-or-put-requires-3 : tie.Need-grow-or-put-requires-3
+grow-or-put-requires-3 : tie.Need-grow_or_put-requires-2
 grow-or-put-requires-3 c κs = let entry : tie.Start = search in
-    let size : length c.before.before.cells_of.result ≡ cell_count = search rules in
-    (entry.pre.0, (entry.pre.1, omega (arith, size)))
+    let size : length c.cells_of-old.result ≡ cell_count = search rules in
+    (entry.requires.0, (entry.requires.1, omega (arith, size)))
 
-returns-3 : tie.Need-returns-3
-returns-3 c = let kept : tie.After-cells-of = search in let entry : tie.Start = search in let A = entry.args in
-    let tried = c.before.before.grow-or-put3.ensures in (
+returns-3 : tie.Need-returns
+returns-3 c = let kept : tie.After-cells_of-old = search in let entry : tie.Start = search in let A = entry.args in
+    let tried = c.grow_or_put-2.ensures in (
       tried.0,
-      λ e. put_back A.t.now kept.cells_of.result _ ((A.n + A.m) * side) (λ k h. ap (λ (w : List ℕ). get_or w k 0) kept.cells_of.ensures)
+      λ e. put_back A.t.now kept.cells_of-old.result _ ((A.n + A.m) * side) (λ k h. ap (λ (w : List ℕ). get_or w k 0) kept.cells_of-old.ensures)
           (tried.1 e),
     )
 

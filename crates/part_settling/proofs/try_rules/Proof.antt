@@ -9,14 +9,14 @@ use Rattle.part_settling.specs.Settled.{added_all}
 use Rattle.part_settling.proofs.try_rules.Statement.{statement}
 use Rattle.part_settling.proofs.try_rules.Tie as tie
 
-try-grown-requires : tie.Need-try-grown-requires
-try-grown-requires c κs = let entry : tie.Start = search in let p = entry.pre in
+try-grown-requires : tie.Need-try_grown-requires
+try-grown-requires c κs = let entry : tie.Start = search in let p = entry.requires in
     let same : entry.args.n + 0 ≡ entry.args.n = omega arith in
     ((p.0.0, p.0.1, omega arith, omega arith, p.0.3), (p.1.0, rw same p.1.1))
 
 returns : tie.Need-returns
-returns c = let entry : tie.Start = search in let p = entry.pre.0 in
-    let tried = c.before.before.try-grown.ensures in
+returns c = let entry : tie.Start = search in let p = entry.requires.0 in
+    let tried = c.try_grown.ensures in
     let same : entry.args.n + 0 ≡ entry.args.n = omega arith in
     (tried.0 ∙ ap₂ (added_all (rules_of entry.args.rules)) same (sym (grown_none entry.args.t.now entry.args.n 0 p.0 p.2)), tried.1)
 

@@ -40,53 +40,53 @@ numbers_test clock e h = e ∙ ap (λ (x : Settings). sized_numbers x clock) h
 
 -- what each test that is passed has shown: the numbers are sized, and each job is
 numbers :
-    (c : tie.Else1)
+    (c : tie.Else-not-are_numbers_sized)
     → (let entry : tie.Start = search in
     let w = word_in entry.args.w.now in
     sized_numbers (settings_read w) (w clock_at) ≡ true)
-numbers c = let sized : tie.After-are-numbers-sized = search in let read : tie.After-settings-in = search in
-    holds (numbers_test _ sized.are-numbers-sized.ensures read.settings-in.ensures) c.if1.false
+numbers c = let sized : tie.After-are_numbers_sized = search in let read : tie.After-settings_in = search in
+    holds (numbers_test _ sized.are_numbers_sized.ensures read.settings_in.ensures) c.if-not-are_numbers_sized.false-raw
 
 each :
-    (c : tie.Else3)
+    (c : tie.Else-not-is_each_sized)
     → (let entry : tie.Start = search in
     let w = word_in entry.args.w.now in
     all_of (sized_job (w horizon_at)) (jobs_of (held_jobs w)) ≡ true)
-each c = holds c.before.is-each-sized.ensures c.if3.false
+each c = holds c.is_each_sized.ensures c.if-not-is_each_sized.false-raw
 
-returns : tie.Need-returns
+returns : tie.Need-returns-then-not-are_numbers_sized
 unfolding clauses_kept
-returns c = let read : tie.After-settings-in = search in
-    fails _ (breaks (numbers_test _ c.before.are-numbers-sized.ensures read.settings-in.ensures) c.if1.true)
+returns c = let read : tie.After-settings_in = search in
+    fails _ (breaks (numbers_test _ c.are_numbers_sized.ensures read.settings_in.ensures) c.if-not-are_numbers_sized.true-raw)
 
-returns-2 : tie.Need-returns-2
+returns-2 : tie.Need-returns-then-w
 unfolding clauses_kept
-returns-2 c = let first : tie.Else1 = search in let entry : tie.Start = search in
-    passes (numbers first) (fails _ (too_many (word_in entry.args.w.now horizon_at) (held_jobs (word_in entry.args.w.now)) c.if2.true))
+returns-2 c = let first : tie.Else-not-are_numbers_sized = search in let entry : tie.Start = search in
+    passes (numbers first) (fails _ (too_many (word_in entry.args.w.now horizon_at) (held_jobs (word_in entry.args.w.now)) c.if-w.true))
 
-returns-3 : tie.Need-returns-3
+returns-3 : tie.Need-returns-then-not-is_each_sized
 unfolding clauses_kept
-returns-3 c = let few : tie.Else2 = search in let first : tie.Else1 = search in let entry : tie.Start = search in
+returns-3 c = let few : tie.Else-w = search in let first : tie.Else-not-are_numbers_sized = search in let entry : tie.Start = search in
     let w = word_in entry.args.w.now in
-    passes (numbers first) (fails _ (not_each (w horizon_at) (held_jobs w) few.if2.left (breaks c.before.is-each-sized.ensures c.if3.true)))
+    passes (numbers first) (fails _ (not_each (w horizon_at) (held_jobs w) few.if-w.false (breaks c.is_each_sized.ensures c.if-not-is_each_sized.true-raw)))
 
-points-in-requires : tie.Need-points-in-requires
-points-in-requires c κs = let few : tie.Else2 = search in let entry : tie.Start = search in
+points-in-requires : tie.Need-points_in-n-requires
+points-in-requires c κs = let few : tie.Else-w = search in let entry : tie.Start = search in
     let w = word_in entry.args.w.now in
-    (entry.pre.0, few.if2.left, few_points_lem (w horizon_at) (jobs_of (held_jobs w)) (each c))
+    (entry.requires.0, few.if-w.false, few_points_lem (w horizon_at) (jobs_of (held_jobs w)) (each c))
 
-returns-4 : tie.Need-returns-4
+returns-4 : tie.Need-returns-then-n
 unfolding clauses_kept
-returns-4 c = let third : tie.Else3 = search in let few : tie.Else2 = search in let first : tie.Else1 = search in let entry : tie.Start = search in
+returns-4 c = let third : tie.Else-not-is_each_sized = search in let few : tie.Else-w = search in let first : tie.Else-not-are_numbers_sized = search in let entry : tie.Start = search in
     let w = word_in entry.args.w.now in
-    passes (numbers first) (fails _ (too_long (w horizon_at) (held_jobs w) few.if2.left (each third) (rw c.before.points-in.ensures at c.if4.true)))
+    passes (numbers first) (fails _ (too_long (w horizon_at) (held_jobs w) few.if-w.false (each third) (rw c.points_in-n.ensures at c.if-n.true)))
 
-are-others-kept-requires : tie.Need-are-others-kept-requires
-are-others-kept-requires c κs = let third : tie.Else3 = search in let few : tie.Else2 = search in let first : tie.Else1 = search in
+are-others-kept-requires : tie.Need-are_others_kept-requires
+are-others-kept-requires c κs = let third : tie.Else-not-is_each_sized = search in let few : tie.Else-w = search in let first : tie.Else-not-are_numbers_sized = search in
     let entry : tie.Start = search in
     let w = word_in entry.args.w.now in
-    let all = all_sized (w horizon_at) (held_jobs w) few.if2.left (each third) (rw c.before.points-in.ensures at c.if4.false) in
-    (entry.pre, (numbers first, all, c.before.points-in.ensures))
+    let all = all_sized (w horizon_at) (held_jobs w) few.if-w.false (each third) (rw c.points_in-n.ensures at c.if-n.false) in
+    (entry.requires, (numbers first, all, c.points_in-n.ensures))
 
 pub are_clauses_kept_spec : {M : Type 1} → statement M
 are_clauses_kept_spec =

@@ -28,55 +28,55 @@ table_test l H {n = n} e h = e ∙ ap (λ (k : ℕ). is_gap_table l k H) (add-on
 
 -- what each test that is passed has shown: the lines are sized, and the sent jobs come first
 lined :
-    (c : tie.Else1)
+    (c : tie.Else-not-are_lines_sized)
     → (let entry : tie.Start = search in
     let w = word_in entry.args.w.now in
     all_of (sized_line (total (jobs_of (held_jobs w)))) (lines_read w) ≡ true)
 lined c = let entry : tie.Start = search in
-    holds (lines_test (lines_read (word_in entry.args.w.now)) c.before.are-lines-sized.ensures entry.pre.1.2) c.if1.false
+    holds (lines_test (lines_read (word_in entry.args.w.now)) c.are_lines_sized.ensures entry.requires.1.2) c.if-not-are_lines_sized.false-raw
 
-first : (c : tie.Else2) → (let entry : tie.Start = search in sent_from true (jobs_of (held_jobs (word_in entry.args.w.now))) ≡ true)
-first c = holds c.before.is-sent-first.ensures c.if2.false
+first : (c : tie.Else-not-is_sent_first) → (let entry : tie.Start = search in sent_from true (jobs_of (held_jobs (word_in entry.args.w.now))) ≡ true)
+first c = holds c.is_sent_first.ensures c.if-not-is_sent_first.false-raw
 
-returns : tie.Need-returns
+returns : tie.Need-returns-then-not-are_lines_sized
 unfolding clauses_kept
 returns c = let entry : tie.Start = search in
     let w = word_in entry.args.w.now in
-    let unlined = breaks (lines_test (lines_read w) c.before.are-lines-sized.ensures entry.pre.1.2) c.if1.true in
-    passes entry.pre.1.0 (passes entry.pre.1.1 (fails _ unlined))
+    let unlined = breaks (lines_test (lines_read w) c.are_lines_sized.ensures entry.requires.1.2) c.if-not-are_lines_sized.true-raw in
+    passes entry.requires.1.0 (passes entry.requires.1.1 (fails _ unlined))
 
-is-sent-first-requires : tie.Need-is-sent-first-requires
+is-sent-first-requires : tie.Need-is_sent_first-requires
 is-sent-first-requires c κs = let entry : tie.Start = search in
-    (entry.pre.0.0, (jobs_sized (word_in entry.args.w.now horizon_at) (held_jobs (word_in entry.args.w.now)) entry.pre.1.1).count)
+    (entry.requires.0.0, (jobs_sized (word_in entry.args.w.now horizon_at) (held_jobs (word_in entry.args.w.now)) entry.requires.1.1).count)
 
-returns-2 : tie.Need-returns-2
+returns-2 : tie.Need-returns-then-not-is_sent_first
 unfolding clauses_kept
-returns-2 c = let tested : tie.Else1 = search in let entry : tie.Start = search in
-    passes entry.pre.1.0 (passes entry.pre.1.1 (passes (lined tested) (fails _ (breaks c.before.is-sent-first.ensures c.if2.true))))
+returns-2 c = let tested : tie.Else-not-are_lines_sized = search in let entry : tie.Start = search in
+    passes entry.requires.1.0 (passes entry.requires.1.1 (passes (lined tested) (fails _ (breaks c.is_sent_first.ensures c.if-not-is_sent_first.true-raw))))
 
-is-gap-table-requires : tie.Need-is-gap-table-requires
+is-gap-table-requires : tie.Need-is_gap_table-requires
 is-gap-table-requires c κs = let entry : tie.Start = search in
     let w = word_in entry.args.w.now in
-    let jobs = jobs_sized (w horizon_at) (held_jobs w) entry.pre.1.1 in
-    (entry.pre.0.1, omega (arith, jobs.points), (numbers_to (settings_read w) (w clock_at) entry.pre.1.0).0.1)
+    let jobs = jobs_sized (w horizon_at) (held_jobs w) entry.requires.1.1 in
+    (entry.requires.0.1, omega (arith, jobs.points), (numbers_to (settings_read w) (w clock_at) entry.requires.1.0).0.1)
 
-returns-3 : tie.Need-returns-3
+returns-3 : tie.Need-returns-then-not-is_gap_table
 unfolding clauses_kept
-returns-3 c = let passed : tie.Else2 = search in let tested : tie.Else1 = search in let entry : tie.Start = search in
+returns-3 c = let passed : tie.Else-not-is_sent_first = search in let tested : tie.Else-not-are_lines_sized = search in let entry : tie.Start = search in
     let w = word_in entry.args.w.now in
-    let table = breaks (table_test entry.args.t.now (w horizon_at) c.before.is-gap-table.ensures entry.pre.1.2) c.if3.true in
-    passes entry.pre.1.0 (passes entry.pre.1.1 (passes (lined tested) (passes (first passed) (fails _ table))))
+    let table = breaks (table_test entry.args.t.now (w horizon_at) c.is_gap_table.ensures entry.requires.1.2) c.if-not-is_gap_table.true-raw in
+    passes entry.requires.1.0 (passes entry.requires.1.1 (passes (lined tested) (passes (first passed) (fails _ table))))
 
-is-sent-still-requires : tie.Need-is-sent-still-requires
+is-sent-still-requires : tie.Need-is_sent_still-requires
 is-sent-still-requires c κs = let entry : tie.Start = search in
-    (entry.pre.0.0, entry.pre.0.1, jobs_sized (word_in entry.args.w.now horizon_at) (held_jobs (word_in entry.args.w.now)) entry.pre.1.1)
+    (entry.requires.0.0, entry.requires.0.1, jobs_sized (word_in entry.args.w.now horizon_at) (held_jobs (word_in entry.args.w.now)) entry.requires.1.1)
 
-returns-4 : tie.Need-returns-4
+returns-4 : tie.Need-returns
 unfolding clauses_kept
-returns-4 c = let third : tie.Else3 = search in let passed : tie.Else2 = search in let tested : tie.Else1 = search in let entry : tie.Start = search in
+returns-4 c = let third : tie.Else-not-is_gap_table = search in let passed : tie.Else-not-is_sent_first = search in let tested : tie.Else-not-are_lines_sized = search in let entry : tie.Start = search in
     let w = word_in entry.args.w.now in
-    let table = holds (table_test entry.args.t.now (w horizon_at) third.before.is-gap-table.ensures entry.pre.1.2) third.if3.left in
-    passes entry.pre.1.0 (passes entry.pre.1.1 (passes (lined tested) (passes (first passed) (passes table c.is-sent-still.ensures))))
+    let table = holds (table_test entry.args.t.now (w horizon_at) third.is_gap_table.ensures entry.requires.1.2) third.if-not-is_gap_table.false-raw in
+    passes entry.requires.1.0 (passes entry.requires.1.1 (passes (lined tested) (passes (first passed) (passes table c.is_sent_still.ensures))))
 
 pub are_others_kept_spec : {M : Type 1} → statement M
 are_others_kept_spec =

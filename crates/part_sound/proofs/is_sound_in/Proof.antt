@@ -9,16 +9,16 @@ use Rattle.part_sound.proofs.InWords.{unmarked, framed_in}
 use Rattle.part_sound.proofs.is_sound_in.Statement.{statement}
 use Rattle.part_sound.proofs.is_sound_in.Tie as tie
 
-returns : tie.Need-returns
+returns : tie.Need-returns-then-not-are_marked
 returns c = let entry : tie.Start = search in
-    sym (unmarked (word_in entry.args.w.now) (breaks c.before.are-marked.ensures c.if1.true))
+    sym (unmarked (word_in entry.args.w.now) (breaks c.are_marked.ensures c.if-not-are_marked.true-raw))
 
-returns-2 : tie.Need-returns-2
+returns-2 : tie.Need-returns
 unfolding sound
-returns-2 c = let tested : tie.After-are-marked = search in
+returns-2 c = let tested : tie.After-are_marked = search in
     let entry : tie.Start = search in
-    passes (holds tested.are-marked.ensures c.before.before.if1.false)
-    (c.are-clauses-kept.ensures ∙ ap clauses_kept (framed_in entry.args.w.now entry.pre))
+    passes (holds tested.are_marked.ensures c.if-not-are_marked.false-raw)
+    (c.are_clauses_kept.ensures ∙ ap clauses_kept (framed_in entry.args.w.now entry.requires))
 
 pub is_sound_in_spec : {M : Type 1} → statement M
 is_sound_in_spec =

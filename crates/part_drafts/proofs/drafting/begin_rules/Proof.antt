@@ -10,26 +10,26 @@ use Rattle.part_lines.proofs.RuleLaws.{Room_of, rules_back, first_pushed}
 use Rattle.part_drafts.proofs.drafting.begin_rules.Statement.{statement}
 use Rattle.part_drafts.proofs.drafting.begin_rules.Tie as tie
 
-push-requires : tie.Need-push-requires
-push-requires c κs = Room_of c.before.no-rules.result [] 1 c.before.no-rules.ensures (omega arith)
+push-requires : tie.Need-push-one-requires
+push-requires c κs = Room_of c.no_rules.result [] 1 c.no_rules.ensures (omega arith)
 
-add-durations-requires : tie.Need-add-durations-requires
-add-durations-requires c κs = let began : tie.After-no-rules = search in let entry : tie.Start = search in
+add-durations-requires : tie.Need-add_durations-requires
+add-durations-requires c κs = let began : tie.After-no_rules = search in let entry : tie.Start = search in
     let rule = not_before entry.args.first entry.args.earliest in
-    let bounded = c.before.not_before_lem in
+    let bounded = c.not_before in
     let one =
-    first_pushed began.no-rules.result c.push.result bounded.result rule began.no-rules.ensures c.push.ensures bounded.ensures in
-    (Room_of c.push.result (rule ∷ []) 16 one (omega arith), entry.pre.0, entry.pre.1)
+    first_pushed began.no_rules.result c.push-one.result bounded.result rule began.no_rules.ensures c.push-one.ensures bounded.ensures in
+    (Room_of c.push-one.result (rule ∷ []) 16 one (omega arith), entry.requires.0, entry.requires.1)
 
 returns : tie.Need-returns
-returns c = let bounded : tie.After-not-before = search in let began : tie.After-no-rules = search in let entry : tie.Start = search in
+returns c = let bounded : tie.After-not_before = search in let began : tie.After-no_rules = search in let entry : tie.Start = search in
     let A = entry.args in
     let rule = not_before A.first A.earliest in
-    let put = c.before.push in
+    let put = c.push-one in
     let one =
-    first_pushed began.no-rules.result put.result bounded.not_before_lem.result rule began.no-rules.ensures put.ensures
-    bounded.not_before_lem.ensures in
-    c.add-durations.ensures
+    first_pushed began.no_rules.result put.result bounded.not_before.result rule began.no_rules.ensures put.ensures
+    bounded.not_before.ensures in
+    c.add_durations.ensures
     ∙ ap (λ (l : List Rule). rules_from (l ++ durations A.first (steps_of A.steps))) (rules_back put.result (rule ∷ []) one (omega arith))
 
 pub begin_rules_spec : {M : Type 1} → statement M

@@ -26,61 +26,61 @@ offer c = held_offer c.args.batch c.args.due c.args.steps (allocations_in c.args
 
 size : (c : tie.Start) → length (steps_of c.args.steps) ≡ c.args.steps.count
 size c =
-    let len : length c.args.steps.steps ≡ 8 = search (rules, length_mapped, c.well-formed.1.1.1.1.0) in
+    let len : length c.args.steps.steps ≡ 8 = search (rules, length_mapped, c.well_formed.1.1.1.1.0) in
     length_held c.args.steps.count c.args.steps.steps (omega (arith, len))
 
 -- where it goes on, there is room for the job and its points
-not_full : (c : tie.Else1) → (let entry : tie.Start = search in full (state entry) (entry.args.steps.count + 1) ≡ false)
-not_full c = let asked : tie.After-is-full = search in let entry : tie.Start = search in
-    sym (asked.is-full.ensures (state entry) refl) ∙ c.if1.false
+not_full : (c : tie.Else-is_full) → (let entry : tie.Start = search in full (state entry) (entry.args.steps.count + 1) ≡ false)
+not_full c = let asked : tie.After-is_full = search in let entry : tie.Start = search in
+    sym (asked.is_full.ensures (state entry) refl) ∙ c.if-is_full.false
 
-returns : tie.Need-returns
-returns c = let asked : tie.After-is-full = search in let entry : tie.Start = search in
-    let is = sym (asked.is-full.ensures (state entry) refl) ∙ c.before.if1.true in
+returns : tie.Need-returns-then-is_full
+returns c = let asked : tie.After-is_full = search in let entry : tie.Start = search in
+    let is = sym (asked.is_full.ensures (state entry) refl) ∙ c.if-is_full.true in
     stops_as c.refused.result _ (plain 14) c.refused.ensures
     (drafted_full (state entry) (offer entry) entry.args.steps.count (sym (size entry)) is)
 
-begin-rules-requires : tie.Need-begin-rules-requires
-begin-rules-requires c κs = let passed : tie.Else1 = search in let entry : tie.Start = search in
+begin-rules-requires : tie.Need-begin_rules-begun-requires
+begin-rules-requires c κs = let passed : tie.Else-is_full = search in let entry : tie.Start = search in
     let fits = within (state entry) (entry.args.steps.count + 1) (not_full passed) in
-    (omega (arith, fits), entry.pre.1.1.1)
+    (omega (arith, fits), entry.requires.1.1.1)
 
-place-all-requires : tie.Need-place-all-requires
-place-all-requires c κs = let passed : tie.Else1 = search in let entry : tie.Start = search in
+place-all-requires : tie.Need-place_all-placing-requires
+place-all-requires c κs = let passed : tie.Else-is_full = search in let entry : tie.Start = search in
     let steps = entry.args.steps in
     let fits = within (state entry) (steps.count + 1) (not_full passed) in
     let few : length (steps_of steps) ≤ 8 = omega (arith, length-take steps.count steps.steps) in (
-      entry.pre.0,
-      entry.pre.1.1.0,
-      entry.pre.1.1.2,
+      entry.requires.0,
+      entry.requires.1.1.0,
+      entry.requires.1.1.2,
       omega (arith, fits),
-      start_room _ _ (steps_of steps) c.begin-rules.result few c.begin-rules.ensures,
+      start_room _ _ (steps_of steps) c.begin_rules-begun.result few c.begin_rules-begun.ensures,
     )
 
-returns-2 : tie.Need-returns-2
+returns-2 : tie.Need-returns-in-Refused
 unfolding live_count
-returns-2 c = let placing : tie.After-place-all = search in let began : tie.After-begin-rules = search in
-    let passed : tie.Else1 = search in let entry : tie.Start = search in
+returns-2 c = let placing : tie.After-place_all-placing = search in let began : tie.After-begin_rules-begun = search in
+    let passed : tie.Else-is_full = search in let entry : tie.Start = search in
     let A = entry.args in
     let few : length (steps_of A.steps) ≤ 8 = omega (arith, size entry) in
     let first : A.n + 1 ≡ live_count (state entry) = omega arith in
-    let begun = began.begin-rules in
-    let placed = placing.place-all in
-    stops_as c.refused2.result _ _ c.refused2.ensures
+    let begun = began.begin_rules-begun in
+    let placed = placing.place_all-placing in
+    stops_as c.refused-in-Refused.result _ _ c.refused-in-Refused.ensures
     (drafted_stop (state entry) (offer entry) (A.n + 1) A.steps.count first (sym (size entry)) (not_full passed) few begun.result begun.ensures
-    placed.result.ruling _ placed.result.rules placed.ensures.0 _ c.before.before.ruling.given.1)
+    placed.result.ruling _ placed.result.rules placed.ensures.0 _ c.in-Refused.is)
 
-returns-3 : tie.Need-returns-3
+returns-3 : tie.Need-returns
 unfolding live_count
-returns-3 c = let told : tie.After-enum-told = search in let placing : tie.After-place-all = search in let began : tie.After-begin-rules = search in
-    let passed : tie.Else1 = search in let entry : tie.Start = search in
+returns-3 c = let told : tie.In_default = search in let placing : tie.After-place_all-placing = search in let began : tie.After-begin_rules-begun = search in
+    let passed : tie.Else-is_full = search in let entry : tie.Start = search in
     let A = entry.args in
     let few : length (steps_of A.steps) ≤ 8 = omega (arith, size entry) in
     let first : A.n + 1 ≡ live_count (state entry) = omega arith in
-    let begun = began.begin-rules in
-    let placed = placing.place-all in
+    let begun = began.begin_rules-begun in
+    let placed = placing.place_all-placing in
     drafted_made (state entry) (offer entry) (A.n + 1) A.steps.count first (sym (size entry)) (not_full passed) few begun.result begun.ensures
-    placed.result.ruling _ placed.result.rules placed.ensures.0 c.add-last-rules.result told.enum_told.given.1 c.add-last-rules.ensures
+    placed.result.ruling _ placed.result.rules placed.ensures.0 c.add_last_rules-rules.result told.in_default.is c.add_last_rules-rules.ensures
 
 pub draft_spec : {M : Type 1} → statement M
 draft_spec =

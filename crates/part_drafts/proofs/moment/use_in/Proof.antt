@@ -16,10 +16,10 @@ use Rattle.part_drafts.proofs.Moments.{Sought, look_other, look_here, look_behin
 use Rattle.part_drafts.proofs.moment.use_in.Statement.{statement}
 use Rattle.part_drafts.proofs.moment.use_in.Tie as tie
 
-abbrev invariant_loop : tie.invariant_loop
+abbrev invariant_loop : tie.invariant-loop-j
 invariant_loop w first allocations k line place at₀ j₀ at j = (j ≤ k) × Sought first w allocations line (get_or (line_then first w allocations k line) place no_use) j at
 
-abbrev decreases_loop : tie.decreases_loop
+abbrev decreases_loop : tie.decreases-loop-j
 decreases_loop w first allocations k line place at₀ j₀ at j = j
 
 -- the last of j allocations is number j - 1
@@ -33,72 +33,72 @@ found :
 found {x = x} {w = w} {allocations = allocations} {r = r} {u = u} {j = j} {at = at} s h =
     look_words (subst (λ (i : ℕ). Sought x w allocations r u i at) {x = j} {y = 0} (omega arith) s)
 
-loop-holds : tie.Need-loop-init invariant_loop decreases_loop
+loop-holds : tie.Need-loop-j-init invariant_loop decreases_loop
 loop-holds c = let entry : tie.Start invariant_loop decreases_loop = search in
-    (omega arith, record { fits = entry.pre.1.0; below = entry.pre.1.1; is = refl })
+    (omega arith, record { fits = entry.requires.1.0; below = entry.requires.1.1; is = refl })
 
-read-allocation-requires : tie.Need-read-allocation-requires invariant_loop decreases_loop
-read-allocation-requires c κs = let entry : tie.Start invariant_loop decreases_loop = search in omega (arith, entry.pre.0.2.there)
+read-allocation-requires : tie.Need-read_allocation-allocation-requires invariant_loop decreases_loop
+read-allocation-requires c κs = let entry : tie.Start invariant_loop decreases_loop = search in omega (arith, entry.requires.0.2.there)
 
-used-from-requires : tie.Need-used-from-requires invariant_loop decreases_loop
-used-from-requires c κs = let entry : tie.Start invariant_loop decreases_loop = search in let read : tie.After-read-allocation invariant_loop decreases_loop = search in
-    let turn : tie.At-loop invariant_loop decreases_loop = search in
-    let step = ap (λ (q : Allocation). q.step) read.read-allocation.ensures in
-    (entry.pre.0.4, omega (arith, step, (entry.pre.0.2.each (turn.loop.j - 1) (omega arith)).step))
+used-from-requires : tie.Need-used_from-requires invariant_loop decreases_loop
+used-from-requires c κs = let entry : tie.Start invariant_loop decreases_loop = search in let read : tie.After-read_allocation-allocation invariant_loop decreases_loop = search in
+    let turn : tie.At-loop-j invariant_loop decreases_loop = search in
+    let step = ap (λ (q : Allocation). q.step) read.read_allocation-allocation.ensures in
+    (entry.requires.0.4, omega (arith, step, (entry.requires.0.2.each (turn.loop-j.j - 1) (omega arith)).step))
 
-returns : tie.Need-returns invariant_loop decreases_loop
+returns : tie.Need-returns-then-there-at invariant_loop decreases_loop
 returns c =
-    let here = c.before in
-    let own : tie.Then1 invariant_loop decreases_loop = search in
-    let read : tie.After-read-allocation invariant_loop decreases_loop = search in
-    let turn : tie.At-loop invariant_loop decreases_loop = search in
+    let here = c in
+    let own : tie.Then-allocation-resource invariant_loop decreases_loop = search in
+    let read : tie.After-read_allocation-allocation invariant_loop decreases_loop = search in
+    let turn : tie.At-loop-j invariant_loop decreases_loop = search in
     let entry : tie.Start invariant_loop decreases_loop = search in
     let A = entry.args in
-    let L = turn.loop in
-    let s = down A.w.now A.first A.allocations.now A.resource L.j L.at L.inv.1 (omega arith) in
-    let allocation = read.read-allocation.ensures in
-    let resource = sym (ap (λ (q : Allocation). q.resource) allocation) ∙ own.if1.taken in
-    let place = sym (ap (λ (q : Allocation). q.place) allocation) ∙ here.if2.true in
-    c.used-from.ensures ∙ ap (used_from A.first) allocation ∙ sym (look_here (L.j - 1) s resource entry.pre.0.3 place)
+    let L = turn.loop-j in
+    let s = down A.w.now A.first A.allocations.now A.resource L.j L.at L.invariant.1 (omega arith) in
+    let allocation = read.read_allocation-allocation.ensures in
+    let resource = sym (ap (λ (q : Allocation). q.resource) allocation) ∙ own.if-allocation-resource.true in
+    let place = sym (ap (λ (q : Allocation). q.place) allocation) ∙ here.if-there-at.true in
+    c.used_from.ensures ∙ ap (used_from A.first) allocation ∙ sym (look_here (L.j - 1) s resource entry.requires.0.3 place)
 
-loop-again : tie.Need-loop-preserved invariant_loop decreases_loop
-loop-again c = let own : tie.Then1 invariant_loop decreases_loop = search in let read : tie.After-read-allocation invariant_loop decreases_loop = search in
-    let turn : tie.At-loop invariant_loop decreases_loop = search in let entry : tie.Start invariant_loop decreases_loop = search in let A = entry.args in let L = turn.loop in
-    let s = down A.w.now A.first A.allocations.now A.resource L.j L.at L.inv.1 (omega arith) in
-    let allocation = read.read-allocation.ensures in
-    let resource = sym (ap (λ (q : Allocation). q.resource) allocation) ∙ own.if1.taken in
+loop-again : tie.Need-loop-j-preserved-then-there-at-2 invariant_loop decreases_loop
+loop-again c = let own : tie.Then-allocation-resource invariant_loop decreases_loop = search in let read : tie.After-read_allocation-allocation invariant_loop decreases_loop = search in
+    let turn : tie.At-loop-j invariant_loop decreases_loop = search in let entry : tie.Start invariant_loop decreases_loop = search in let A = entry.args in let L = turn.loop-j in
+    let s = down A.w.now A.first A.allocations.now A.resource L.j L.at L.invariant.1 (omega arith) in
+    let allocation = read.read_allocation-allocation.ensures in
+    let resource = sym (ap (λ (q : Allocation). q.resource) allocation) ∙ own.if-allocation-resource.true in
     let place = ap (λ (q : Allocation). q.place) allocation in
-    (omega arith, look_behind (L.j - 1) s resource entry.pre.0.3 (omega (arith, place)))
+    (omega arith, look_behind (L.j - 1) s resource entry.requires.0.3 (omega (arith, place)))
 
-loop-again-2 : tie.Need-loop-preserved-2 invariant_loop decreases_loop
-loop-again-2 c = let own : tie.Then1 invariant_loop decreases_loop = search in let read : tie.After-read-allocation invariant_loop decreases_loop = search in
-    let turn : tie.At-loop invariant_loop decreases_loop = search in let entry : tie.Start invariant_loop decreases_loop = search in let A = entry.args in let L = turn.loop in
-    let s = down A.w.now A.first A.allocations.now A.resource L.j L.at L.inv.1 (omega arith) in
-    let allocation = read.read-allocation.ensures in
-    let resource = sym (ap (λ (q : Allocation). q.resource) allocation) ∙ own.if1.taken in
+loop-again-2 : tie.Need-loop-j-preserved-else-there-at-2 invariant_loop decreases_loop
+loop-again-2 c = let own : tie.Then-allocation-resource invariant_loop decreases_loop = search in let read : tie.After-read_allocation-allocation invariant_loop decreases_loop = search in
+    let turn : tie.At-loop-j invariant_loop decreases_loop = search in let entry : tie.Start invariant_loop decreases_loop = search in let A = entry.args in let L = turn.loop-j in
+    let s = down A.w.now A.first A.allocations.now A.resource L.j L.at L.invariant.1 (omega arith) in
+    let allocation = read.read_allocation-allocation.ensures in
+    let resource = sym (ap (λ (q : Allocation). q.resource) allocation) ∙ own.if-allocation-resource.true in
     let place = ap (λ (q : Allocation). q.place) allocation in
-    (omega arith, look_before (L.j - 1) s resource entry.pre.0.3 (omega (arith, place)))
+    (omega arith, look_before (L.j - 1) s resource entry.requires.0.3 (omega (arith, place)))
 
-loop-again-3 : tie.Need-loop-preserved-3 invariant_loop decreases_loop
-loop-again-3 c = let entry : tie.Start invariant_loop decreases_loop = search in let read : tie.After-read-allocation invariant_loop decreases_loop = search in
-    let turn : tie.At-loop invariant_loop decreases_loop = search in let A = entry.args in let L = turn.loop in
-    let s = down A.w.now A.first A.allocations.now A.resource L.j L.at L.inv.1 (omega arith) in
-    (omega arith, look_other (L.j - 1) s (λ e. c.if1.false (ap (λ (q : Allocation). q.resource) read.read-allocation.ensures ∙ e)))
+loop-again-3 : tie.Need-loop-j-preserved invariant_loop decreases_loop
+loop-again-3 c = let entry : tie.Start invariant_loop decreases_loop = search in let read : tie.After-read_allocation-allocation invariant_loop decreases_loop = search in
+    let turn : tie.At-loop-j invariant_loop decreases_loop = search in let A = entry.args in let L = turn.loop-j in
+    let s = down A.w.now A.first A.allocations.now A.resource L.j L.at L.invariant.1 (omega arith) in
+    (omega arith, look_other (L.j - 1) s (λ e. c.if-allocation-resource.false (ap (λ (q : Allocation). q.resource) read.read_allocation-allocation.ensures ∙ e)))
 
-use-at-requires : tie.Need-use-at-requires invariant_loop decreases_loop
-use-at-requires c κs = let entry : tie.Start invariant_loop decreases_loop = search in let turn : tie.At-loop invariant_loop decreases_loop = search in
-    let at = found turn.loop.inv.1 (omega arith) entry.pre.0.3 entry.pre.0.1 in
+use-at-requires : tie.Need-use_at-requires invariant_loop decreases_loop
+use-at-requires c κs = let entry : tie.Start invariant_loop decreases_loop = search in let turn : tie.At-loop-j invariant_loop decreases_loop = search in
+    let at = found turn.loop-j.invariant.1 (omega arith) entry.requires.0.3 entry.requires.0.1 in
     (omega arith, at.0)
 
-returns-2 : tie.Need-returns-2 invariant_loop decreases_loop
+returns-2 : tie.Need-returns invariant_loop decreases_loop
 returns-2 c =
-    let start = c.before in
-    let turn : tie.At-loop invariant_loop decreases_loop = search in
+    let start = c in
+    let turn : tie.At-loop-j invariant_loop decreases_loop = search in
     let entry : tie.Start invariant_loop decreases_loop = search in
-    let p = entry.pre in
-    let L = turn.loop in
-    let at = found L.inv.1 (omega arith) p.0.3 p.0.1 in
-    c.use_at_lem.ensures ∙ ap (λ (i : ℕ). use_at (word_in entry.args.w.now) i L.at) start.line-start.ensures ∙ sym at.1
+    let p = entry.requires in
+    let L = turn.loop-j in
+    let at = found L.invariant.1 (omega arith) p.0.3 p.0.1 in
+    c.use_at.ensures ∙ ap (λ (i : ℕ). use_at (word_in entry.args.w.now) i L.at) start.line_start.ensures ∙ sym at.1
 
 pub use_in_spec : {M : Type 1} → statement M
 use_in_spec =

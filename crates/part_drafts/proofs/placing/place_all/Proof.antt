@@ -26,17 +26,17 @@ use Rattle.part_drafts.proofs.placing.place_all.Tie as tie
 abbrev going : List (List Use) → Rules → Reached
 going ls rs = record { ruling = Accepted; lines = ls; rules = rs }
 
-abbrev invariant_loop : tie.invariant_loop
+abbrev invariant_loop : tie.invariant-loop-k
 invariant_loop w settings first allocations n made₀ k₀ made k = (k ≤ n)
     × Going settings first (allocations_in allocations n) (going (lines_in w) made₀) (going (all_with first (lines_in w) (allocations_in allocations k)) made) k
     × AllFit first (lines_in w) (allocations_in allocations k)
     × (length made.rules ≡ most_rules)
 
-abbrev decreases_loop : tie.decreases_loop
+abbrev decreases_loop : tie.decreases-loop-k
 decreases_loop w settings first allocations n made₀ k₀ made k = n - k
 
-loop-holds : tie.Need-loop-init invariant_loop decreases_loop
-loop-holds c = let entry : tie.Start invariant_loop decreases_loop = search in let A = entry.args in let p = entry.pre in
+loop-holds : tie.Need-loop-k-init invariant_loop decreases_loop
+loop-holds c = let entry : tie.Start invariant_loop decreases_loop = search in let A = entry.args in let p = entry.requires in
     let all = allocations_in A.allocations.now A.many in
     let none = none_yet A.first A.w.now A.allocations.now in (
       omega arith,
@@ -49,36 +49,36 @@ loop-holds c = let entry : tie.Start invariant_loop decreases_loop = search in l
       search (rules, length_mapped),
     )
 
-place-one-requires : tie.Need-place-one-requires invariant_loop decreases_loop
+place-one-requires : tie.Need-place_one-turn-requires invariant_loop decreases_loop
 place-one-requires c κs = let entry : tie.Start invariant_loop decreases_loop = search in
-    ((entry.pre.0, entry.pre.1, read_less _ _ _ entry.pre.2 (omega arith), entry.pre.3), c.before.loop.invariant.2)
+    ((entry.requires.0, entry.requires.1, read_less _ _ _ entry.requires.2 (omega arith), entry.requires.3), c.loop-k.invariant.2)
 
-returns : tie.Need-returns invariant_loop decreases_loop
+returns : tie.Need-returns-in-Refused invariant_loop decreases_loop
 unfolding answered
-returns c = let tried : tie.After-place-one invariant_loop decreases_loop = search in let at-loop : tie.At-loop invariant_loop decreases_loop = search in
-    let entry : tie.Start invariant_loop decreases_loop = search in let A = entry.args in let L = at-loop.loop in
+returns c = let tried : tie.After-place_one-turn invariant_loop decreases_loop = search in let at-loop : tie.At-loop-k invariant_loop decreases_loop = search in
+    let entry : tie.Start invariant_loop decreases_loop = search in let A = entry.args in let L = at-loop.loop-k in
     let next = left_next A.allocations.now A.many L.k (omega arith) in
-    let out = tried.place-one.ensures.2 L.made (Room_less L.inv.1.room 2 (omega arith)) in
-    let stops = stops_here L.inv.1 (allocation_at A.allocations.now L.k) _ next out _ c.before.ruling.given.1 in
-    (sym stops, Room_less L.inv.1.room 2 (omega arith))
+    let out = tried.place_one-turn.ensures.2 L.made (Room_less L.invariant.1.room 2 (omega arith)) in
+    let stops = stops_here L.invariant.1 (allocation_at A.allocations.now L.k) _ next out _ c.in-Refused.is in
+    (sym stops, Room_less L.invariant.1.room 2 (omega arith))
 
-loop-again : tie.Need-loop-preserved invariant_loop decreases_loop
-loop-again c = let told : tie.After-enum-told invariant_loop decreases_loop = search in let tried : tie.After-place-one invariant_loop decreases_loop = search in
-    let at-loop : tie.At-loop invariant_loop decreases_loop = search in let entry : tie.Start invariant_loop decreases_loop = search in let A = entry.args in
-    let L = at-loop.loop in
+loop-again : tie.Need-loop-k-preserved invariant_loop decreases_loop
+loop-again c = let told : tie.In_default invariant_loop decreases_loop = search in let tried : tie.After-place_one-turn invariant_loop decreases_loop = search in
+    let at-loop : tie.At-loop-k invariant_loop decreases_loop = search in let entry : tie.Start invariant_loop decreases_loop = search in let A = entry.args in
+    let L = at-loop.loop-k in
     let next = left_next A.allocations.now A.many L.k (omega arith) in
-    let out = tried.place-one.ensures.2 L.made (Room_less L.inv.1.room 2 (omega arith)) in
+    let out = tried.place_one-turn.ensures.2 L.made (Room_less L.invariant.1.room 2 (omega arith)) in
     let q = allocation_at A.allocations.now L.k in
-    let fit = went_in L.inv.1 q _ next out told.enum_told.given.1 in (
+    let fit = went_in L.invariant.1 q _ next out told.in_default.is in (
       omega arith,
-      goes_on L.inv.1 q _ next out told.enum_told.given.1 (omega arith) _ (sym (then_more A.first A.w.now A.allocations.now L.k)),
-      fits_next A.first A.w.now A.allocations.now L.k L.inv.2 fit.0 fit.1,
-      simp length-set L.inv.3,
+      goes_on L.invariant.1 q _ next out told.in_default.is (omega arith) _ (sym (then_more A.first A.w.now A.allocations.now L.k)),
+      fits_next A.first A.w.now A.allocations.now L.k L.invariant.2 fit.0 fit.1,
+      simp length-set L.invariant.3,
     )
 
-returns-2 : tie.Need-returns-2 invariant_loop decreases_loop
+returns-2 : tie.Need-returns invariant_loop decreases_loop
 returns-2 c = let entry : tie.Start invariant_loop decreases_loop = search in let A = entry.args in
-    let L = c.before.loop in
+    let L = c.loop-k in
     let end : L.k ≡ A.many = omega arith in (
       ap (λ (i : ℕ). answered Accepted (all_with A.first (lines_in A.w.now) (allocations_in A.allocations.now i)) (rules_of L.made)) (sym end)
           ∙ all_placed L.invariant.1 (left_over A.allocations.now A.many L.k (omega arith)),

@@ -20,13 +20,13 @@ use Rattle.part_drafts.proofs.PlaceLaws.{placed_far, placed_full, turn_stops, tu
 use Rattle.part_drafts.proofs.placing.place_one.Statement.{statement}
 use Rattle.part_drafts.proofs.placing.place_one.Tie as tie
 
-read-allocation-requires : tie.Need-read-allocation-requires
-read-allocation-requires c κs = let entry : tie.Start = search in omega (arith, entry.pre.0.2.there)
+read-allocation-requires : tie.Need-read_allocation-allocation-requires
+read-allocation-requires c κs = let entry : tie.Start = search in omega (arith, entry.requires.0.2.there)
 
-number-in-requires : tie.Need-number-in-requires
-number-in-requires c κs = let entry : tie.Start = search in let p = entry.pre in
+number-in-requires : tie.Need-number_in-number-requires
+number-in-requires c κs = let entry : tie.Start = search in let p = entry.requires in
     let there = (p.0.2.each entry.args.k (omega arith)).resource in
-    let known = subst (λ (y : Allocation). y.resource < resources) (sym c.before.read-allocation.ensures) there in
+    let known = subst (λ (y : Allocation). y.resource < resources) (sym c.read_allocation-allocation.ensures) there in
     (p.0.0, p.0.1, read_less _ _ _ p.0.2 (omega arith), known)
 
 -- the allocation, the lines when its turn comes, and how many uses its line holds then
@@ -37,51 +37,51 @@ abbrev lines_then : tie.Start → List (List Use)
 lines_then e = all_with e.args.first (lines_in e.args.w.now) (allocations_in e.args.allocations.now e.args.k)
 
 size :
-    (c : tie.After-number-in)
-    → (let entry : tie.Start = search in c.number_in.result ≡ length (line_for (lines_then entry) (this entry)))
-size c = let read : tie.After-read-allocation = search in let entry : tie.Start = search in
-    c.number_in.ensures entry.args.first ∙ ap (λ (y : Allocation). length (line_for (lines_then entry) y)) read.read-allocation.ensures
+    (c : tie.After-number_in-number)
+    → (let entry : tie.Start = search in c.number_in-number.result ≡ length (line_for (lines_then entry) (this entry)))
+size c = let read : tie.After-read_allocation-allocation = search in let entry : tie.Start = search in
+    c.number_in-number.ensures entry.args.first ∙ ap (λ (y : Allocation). length (line_for (lines_then entry) y)) read.read_allocation-allocation.ensures
 
-returns : tie.Need-returns
-returns c = let numbered : tie.After-number-in = search in let read : tie.After-read-allocation = search in let entry : tie.Start = search in
+returns : tie.Need-returns-then-number-place
+returns c = let numbered : tie.After-number_in-number = search in let read : tie.After-read_allocation-allocation = search in let entry : tie.Start = search in
     let A = entry.args in
-    let place = ap (λ (y : Allocation). y.place) read.read-allocation.ensures in
+    let place = ap (λ (y : Allocation). y.place) read.read_allocation-allocation.ensures in
     turn_stops A.settings A.first A.k (this entry) (lines_then entry) c.stopped.result (cause 15 A.k) c.stopped.ensures
     (λ rs. placed_far A.settings A.first A.k (this entry) [] (lines_then entry) rs _ refl (omega (arith, size numbered, place)))
 
-returns-2 : tie.Need-returns-2
-returns-2 c = let numbered : tie.After-number-in = search in let read : tie.After-read-allocation = search in let entry : tie.Start = search in
+returns-2 : tie.Need-returns-then-number-ge-MOST_USES
+returns-2 c = let numbered : tie.After-number_in-number = search in let read : tie.After-read_allocation-allocation = search in let entry : tie.Start = search in
     let A = entry.args in
     let few = size numbered in
-    let place = ap (λ (y : Allocation). y.place) read.read-allocation.ensures in
-    turn_stops A.settings A.first A.k (this entry) (lines_then entry) c.stopped2.result (cause 16 A.k) c.stopped2.ensures
+    let place = ap (λ (y : Allocation). y.place) read.read_allocation-allocation.ensures in
+    turn_stops A.settings A.first A.k (this entry) (lines_then entry) c.stopped-then-number-ge-MOST_USES.result (cause 16 A.k) c.stopped-then-number-ge-MOST_USES.ensures
     (λ rs. placed_full A.settings A.first A.k (this entry) [] (lines_then entry) rs _ refl (omega (arith, few, place)) (omega (arith, few)))
 
-rule-before-requires : tie.Need-rule-before-requires
-rule-before-requires c κs = let numbered : tie.After-number-in = search in let read : tie.After-read-allocation = search in
-    let entry : tie.Start = search in let p = entry.pre in
-    let readable = subst Readable (sym read.read-allocation.ensures) (p.0.2.each _ (omega arith)) in
-    let there = numbered.number_in.ensures entry.args.first in
+rule-before-requires : tie.Need-rule_before-before-requires
+rule-before-requires c κs = let numbered : tie.After-number_in-number = search in let read : tie.After-read_allocation-allocation = search in
+    let entry : tie.Start = search in let p = entry.requires in
+    let readable = subst Readable (sym read.read_allocation-allocation.ensures) (p.0.2.each _ (omega arith)) in
+    let there = numbered.number_in-number.ensures entry.args.first in
     ((p.0.0, p.0.1, read_less _ _ _ p.0.2 (omega arith), readable, p.0.3), (p.1, omega (arith, there)))
 
-rule-after-requires : tie.Need-rule-after-requires
-rule-after-requires c κs = let numbered : tie.After-number-in = search in let read : tie.After-read-allocation = search in
-    let entry : tie.Start = search in let p = entry.pre in
-    let readable = subst Readable (sym read.read-allocation.ensures) (p.0.2.each _ (omega arith)) in
-    ((p.0.0, p.0.1, read_less _ _ _ p.0.2 (omega arith), readable, p.0.3), (p.1, numbered.number_in.ensures entry.args.first))
+rule-after-requires : tie.Need-rule_after-after-requires
+rule-after-requires c κs = let numbered : tie.After-number_in-number = search in let read : tie.After-read_allocation-allocation = search in
+    let entry : tie.Start = search in let p = entry.requires in
+    let readable = subst Readable (sym read.read_allocation-allocation.ensures) (p.0.2.each _ (omega arith)) in
+    ((p.0.0, p.0.1, read_less _ _ _ p.0.2 (omega arith), readable, p.0.3), (p.1, numbered.number_in-number.ensures entry.args.first))
 
-returns-3 : tie.Need-returns-3
-returns-3 c = let numbered : tie.After-number-in = search in let read : tie.After-read-allocation = search in let entry : tie.Start = search in
+returns-3 : tie.Need-returns
+returns-3 c = let numbered : tie.After-number_in-number = search in let read : tie.After-read_allocation-allocation = search in let entry : tie.Start = search in
     let A = entry.args in
     let ls = lines_then entry in
     let few = size numbered in
-    let is = read.read-allocation.ensures in
+    let is = read.read_allocation-allocation.ensures in
     let place = ap (λ (y : Allocation). y.place) is in
-    turn_goes A.settings A.first A.k (this entry) ls c.before.rule-before.result c.rule-after.result
+    turn_goes A.settings A.first A.k (this entry) ls c.rule_before-before.result c.rule_after-after.result
     (omega (arith, few, place)) (omega (arith, few))
-    (c.before.rule-before.ensures
+    (c.rule_before-before.ensures
     ∙ ap (λ (y : Allocation). maybe_from (rule_before A.settings (line_for ls y) y.place (used_from A.first y))) is)
-    (c.rule-after.ensures
+    (c.rule_after-after.ensures
     ∙ ap (λ (y : Allocation). maybe_from (rule_after A.settings (line_for ls y) y.place (used_from A.first y))) is)
 
 pub place_one_spec : {M : Type 1} → statement M

@@ -11,25 +11,25 @@ use Rattle.part_gaptest.proofs.Test.{none_joined}
 use Rattle.part_gaptest.proofs.testing.are_clear.Statement.{statement}
 use Rattle.part_gaptest.proofs.testing.are_clear.Tie as tie
 
-abbrev invariant_loop : tie.invariant_loop
+abbrev invariant_loop : tie.invariant-loop-k
 invariant_loop t from count all₀ k₀ all k = (k ≤ count) × (eqb all 0 ≡ clear t from k)
 
-abbrev decreases_loop : tie.decreases_loop
+abbrev decreases_loop : tie.decreases-loop-k
 decreases_loop t from count all₀ k₀ all k = count - k
 
-loop-holds : tie.Need-loop-init invariant_loop decreases_loop
+loop-holds : tie.Need-loop-k-init invariant_loop decreases_loop
 loop-holds c = (omega arith, all_below_none _)
 
-loop-again : tie.Need-loop-preserved invariant_loop decreases_loop
+loop-again : tie.Need-loop-k-preserved invariant_loop decreases_loop
 loop-again c = let entry : tie.Start invariant_loop decreases_loop = search in
-    let L = c.before.before.loop in
+    let L = c.loop-k in
     let f : ℕ → Bool = λ k. eqb (get_or entry.args.t.now (entry.args.from + k) 0) 0 in
     (omega arith, none_joined L.all (get_or entry.args.t.now (entry.args.from + L.k) 0) ∙ all_below_next f L.k _ _ L.invariant.1 refl)
 
 returns : tie.Need-returns invariant_loop decreases_loop
 returns c =
-    let e : c.before.loop.k ≡ c.before.before.args.count = omega arith in
-    rw e at c.before.loop.invariant.1
+    let e : c.loop-k.k ≡ c.args.count = omega arith in
+    rw e at c.loop-k.invariant.1
 
 pub are_clear_spec : {M : Type 1} → statement M
 are_clear_spec =

@@ -8,30 +8,30 @@ use Rattle.part_gaptest.specs.Test.{in_range, is_diagonal, in_windows}
 use Rattle.part_gaptest.proofs.testing.is_gap_table.Statement.{statement}
 use Rattle.part_gaptest.proofs.testing.is_gap_table.Tie as tie
 
-returns : tie.Need-returns
-returns c = rw (sym c.before.in_range.ensures ∙ not-true _ c.if1.true)
+returns : tie.Need-returns-then-not-in_range
+returns c = rw (sym c.in_range.ensures ∙ not-true _ c.if-not-in_range.true-raw)
 
 -- what is known past each test
-ranged : (c : tie.Else1) → (let entry : tie.Start = search in let A = entry.args in in_range A.t.now A.n ≡ true)
-ranged c = sym c.before.in_range.ensures ∙ not-false _ c.if1.false
+ranged : (c : tie.Else-not-in_range) → (let entry : tie.Start = search in let A = entry.args in in_range A.t.now A.n ≡ true)
+ranged c = sym c.in_range.ensures ∙ not-false _ c.if-not-in_range.false-raw
 
-straight : (c : tie.Else2) → (let entry : tie.Start = search in let A = entry.args in is_diagonal A.t.now A.n ≡ true)
-straight c = sym c.before.is-diagonal.ensures ∙ not-false _ c.if2.false
+straight : (c : tie.Else-not-is_diagonal) → (let entry : tie.Start = search in let A = entry.args in is_diagonal A.t.now A.n ≡ true)
+straight c = sym c.is_diagonal.ensures ∙ not-false _ c.if-not-is_diagonal.false-raw
 
-windowed : (c : tie.Else3) → (let entry : tie.Start = search in let A = entry.args in in_windows A.t.now A.n A.horizon ≡ true)
-windowed c = sym c.before.in-windows.ensures ∙ not-false _ c.if3.false
+windowed : (c : tie.Else-not-in_windows) → (let entry : tie.Start = search in let A = entry.args in in_windows A.t.now A.n A.horizon ≡ true)
+windowed c = sym c.in_windows.ensures ∙ not-false _ c.if-not-in_windows.false-raw
 
-returns-2 : tie.Need-returns-2
-returns-2 c = rw (ranged (search), sym c.before.is-diagonal.ensures ∙ not-true _ c.if2.true)
+returns-2 : tie.Need-returns-then-not-is_diagonal
+returns-2 c = rw (ranged (search), sym c.is_diagonal.ensures ∙ not-true _ c.if-not-is_diagonal.true-raw)
 
-returns-3 : tie.Need-returns-3
-returns-3 c = rw (ranged (search), straight (search), sym c.before.in-windows.ensures ∙ not-true _ c.if3.true)
+returns-3 : tie.Need-returns-then-not-in_windows
+returns-3 c = rw (ranged (search), straight (search), sym c.in_windows.ensures ∙ not-true _ c.if-not-in_windows.true-raw)
 
-is-closed-requires : tie.Need-is-closed-requires
+is-closed-requires : tie.Need-is_closed-requires
 is-closed-requires c κs = ((omega arith, omega arith), ranged (search))
 
-returns-4 : tie.Need-returns-4
-returns-4 c = rw (ranged (search), straight (search), windowed (search)) c.is-closed.ensures
+returns-4 : tie.Need-returns
+returns-4 c = rw (ranged (search), straight (search), windowed (search)) c.is_closed.ensures
 
 pub is_gap_table_spec : {M : Type 1} → statement M
 is_gap_table_spec =

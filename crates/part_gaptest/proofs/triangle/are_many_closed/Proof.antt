@@ -10,33 +10,33 @@ use Rattle.part_gaptest.specs.Test.{row_holds, is_closed}
 use Rattle.part_gaptest.proofs.triangle.are_many_closed.Statement.{statement}
 use Rattle.part_gaptest.proofs.triangle.are_many_closed.Tie as tie
 
-abbrev invariant_loop : tie.invariant_loop
+abbrev invariant_loop : tie.invariant-loop-i
 invariant_loop t n i₀ i = (i ≤ n) × (all_below (row_holds t n) i ≡ true)
 
-abbrev decreases_loop : tie.decreases_loop
+abbrev decreases_loop : tie.decreases-loop-i
 decreases_loop t n i₀ i = n - i
 
-loop-holds : tie.Need-loop-init invariant_loop decreases_loop
+loop-holds : tie.Need-loop-i-init invariant_loop decreases_loop
 loop-holds c = (omega arith, sym (all_below_none _))
 
-row-holds-requires : tie.Need-row-holds-requires invariant_loop decreases_loop
+row-holds-requires : tie.Need-row_holds-requires invariant_loop decreases_loop
 row-holds-requires c κs = let entry : tie.Start invariant_loop decreases_loop = search in
-    ((omega arith, omega arith, omega arith), entry.pre.1)
+    ((omega arith, omega arith, omega arith), entry.requires.1)
 
-returns : tie.Need-returns invariant_loop decreases_loop
+returns : tie.Need-returns-then-not-row_holds invariant_loop decreases_loop
 unfolding is_closed
-returns c = let at-loop : tie.At-loop invariant_loop decreases_loop = search in
-    all_below_fails _ _ at-loop.loop.i (omega arith) (sym c.before.row-holds.ensures ∙ not-true _ c.if1.true)
+returns c = let at-loop : tie.At-loop-i invariant_loop decreases_loop = search in
+    all_below_fails _ _ at-loop.loop-i.i (omega arith) (sym c.row_holds.ensures ∙ not-true _ c.if-not-row_holds.true-raw)
 
-loop-again : tie.Need-loop-preserved invariant_loop decreases_loop
-loop-again c = let at-loop : tie.At-loop invariant_loop decreases_loop = search in
-    (omega arith, all_below_passes _ at-loop.loop.i at-loop.loop.inv.1 (sym c.before.row-holds.ensures ∙ not-false _ c.if1.false))
+loop-again : tie.Need-loop-i-preserved invariant_loop decreases_loop
+loop-again c = let at-loop : tie.At-loop-i invariant_loop decreases_loop = search in
+    (omega arith, all_below_passes _ at-loop.loop-i.i at-loop.loop-i.invariant.1 (sym c.row_holds.ensures ∙ not-false _ c.if-not-row_holds.false-raw))
 
-returns-2 : tie.Need-returns-2 invariant_loop decreases_loop
+returns-2 : tie.Need-returns invariant_loop decreases_loop
 unfolding is_closed
 returns-2 c = let entry : tie.Start invariant_loop decreases_loop = search in
-    let e : c.before.loop.i ≡ entry.args.n = omega arith in
-    sym (rw e at c.before.loop.invariant.1)
+    let e : c.loop-i.i ≡ entry.args.n = omega arith in
+    sym (rw e at c.loop-i.invariant.1)
 
 pub are_many_closed_spec : {M : Type 1} → statement M
 are_many_closed_spec =

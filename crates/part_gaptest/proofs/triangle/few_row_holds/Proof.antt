@@ -10,31 +10,31 @@ use Rattle.part_gaptest.specs.Test.{way_holds}
 use Rattle.part_gaptest.proofs.triangle.few_row_holds.Statement.{statement}
 use Rattle.part_gaptest.proofs.triangle.few_row_holds.Tie as tie
 
-abbrev invariant_loop : tie.invariant_loop
+abbrev invariant_loop : tie.invariant-loop-j
 invariant_loop t lifts n i j₀ j = (j ≤ n) × (all_below (way_holds t n i) j ≡ true)
 
-abbrev decreases_loop : tie.decreases_loop
+abbrev decreases_loop : tie.decreases-loop-j
 decreases_loop t lifts n i j₀ j = n - j
 
-loop-holds : tie.Need-loop-init invariant_loop decreases_loop
+loop-holds : tie.Need-loop-j-init invariant_loop decreases_loop
 loop-holds c = (omega arith, sym (all_below_none _))
 
-few-way-holds-requires : tie.Need-few-way-holds-requires invariant_loop decreases_loop
+few-way-holds-requires : tie.Need-few_way_holds-requires invariant_loop decreases_loop
 few-way-holds-requires c κs = let entry : tie.Start invariant_loop decreases_loop = search in
-    ((omega arith, omega arith, omega arith, omega arith), entry.pre.1)
+    ((omega arith, omega arith, omega arith, omega arith), entry.requires.1)
 
-returns : tie.Need-returns invariant_loop decreases_loop
-returns c = let at-loop : tie.At-loop invariant_loop decreases_loop = search in
-    all_below_fails _ _ at-loop.loop.j (omega arith) (sym c.before.few-way-holds.ensures ∙ not-true _ c.if1.true)
+returns : tie.Need-returns-then-not-few_way_holds invariant_loop decreases_loop
+returns c = let at-loop : tie.At-loop-j invariant_loop decreases_loop = search in
+    all_below_fails _ _ at-loop.loop-j.j (omega arith) (sym c.few_way_holds.ensures ∙ not-true _ c.if-not-few_way_holds.true-raw)
 
-loop-again : tie.Need-loop-preserved invariant_loop decreases_loop
-loop-again c = let at-loop : tie.At-loop invariant_loop decreases_loop = search in
-    (omega arith, all_below_passes _ at-loop.loop.j at-loop.loop.inv.1 (sym c.before.few-way-holds.ensures ∙ not-false _ c.if1.false))
+loop-again : tie.Need-loop-j-preserved invariant_loop decreases_loop
+loop-again c = let at-loop : tie.At-loop-j invariant_loop decreases_loop = search in
+    (omega arith, all_below_passes _ at-loop.loop-j.j at-loop.loop-j.invariant.1 (sym c.few_way_holds.ensures ∙ not-false _ c.if-not-few_way_holds.false-raw))
 
-returns-2 : tie.Need-returns-2 invariant_loop decreases_loop
+returns-2 : tie.Need-returns invariant_loop decreases_loop
 returns-2 c = let entry : tie.Start invariant_loop decreases_loop = search in
-    let e : c.before.loop.j ≡ entry.args.n = omega arith in
-    sym (rw e at c.before.loop.invariant.1)
+    let e : c.loop-j.j ≡ entry.args.n = omega arith in
+    sym (rw e at c.loop-j.invariant.1)
 
 pub few_row_holds_spec : {M : Type 1} → statement M
 few_row_holds_spec =

@@ -11,26 +11,26 @@ use Rattle.part_gaptest.proofs.Ways.{lift_row}
 use Rattle.part_gaptest.proofs.triangle.lift_row.Statement.{statement}
 use Rattle.part_gaptest.proofs.triangle.lift_row.Tie as tie
 
-abbrev invariant_loop : tie.invariant_loop
+abbrev invariant_loop : tie.invariant-loop-k
 invariant_loop next₀ k₀ next k = (k ≤ 16) × (next ≡ rewritten (λ i. top - bias) (replicate 32 top) 0 k)
 
-abbrev decreases_loop : tie.decreases_loop
+abbrev decreases_loop : tie.decreases-loop-k
 decreases_loop next₀ k₀ next k = 16 - k
 
-loop-holds : tie.Need-loop-init invariant_loop decreases_loop
+loop-holds : tie.Need-loop-k-init invariant_loop decreases_loop
 loop-holds c = (omega arith, rewritten_none _ _ 0 0 (omega arith))
 
-array-write-next : tie.Need-array-write-next invariant_loop decreases_loop
-array-write-next c = omega (arith, ap length c.before.loop.invariant.1)
+array-write-next : tie.Need-bounds-next-k invariant_loop decreases_loop
+array-write-next c = omega (arith, ap length c.loop-k.invariant.1)
 
-loop-again : tie.Need-loop-preserved invariant_loop decreases_loop
+loop-again : tie.Need-loop-k-preserved invariant_loop decreases_loop
 loop-again c =
-    let L = c.before.loop in
+    let L = c.loop-k in
     (omega arith, store _ _ L.next 0 L.k L.invariant.1 _ _ (omega arith) (omega arith) (omega arith) refl)
 
 returns : tie.Need-returns invariant_loop decreases_loop
 returns c =
-    let L = c.before.loop in
+    let L = c.loop-k in
     let e : L.k ≡ 16 = omega arith in
     rw e at L.invariant.1 ∙ lift_row
 

@@ -6,10 +6,10 @@ use borrow.Author.Rules.{rules}
 use Rattle.part_gaptest.proofs.triangle.partner.Statement.{statement}
 use Rattle.part_gaptest.proofs.triangle.partner.Tie as tie
 
-returns : tie.Need-returns
+returns : tie.Need-returns-then-j-n
 returns c = (inr refl, omega arith, omega arith)
 
-returns-2 : tie.Need-returns-2
+returns-2 : tie.Need-returns
 returns-2 c = (inl refl, omega arith, omega arith)
 
 pub partner_spec : {M : Type 1} → statement M

@@ -12,47 +12,47 @@ use Rattle.part_gaptest.proofs.Ways.{ways_turn}
 use Rattle.part_gaptest.proofs.triangle.ways_hold.Statement.{statement}
 use Rattle.part_gaptest.proofs.triangle.ways_hold.Tie as tie
 
-abbrev invariant_loop : tie.invariant_loop
+abbrev invariant_loop : tie.invariant-loop-k
 invariant_loop t n i a b direct first second way other all₀ k₀ all k =
     (k ≤ n) × (all < 4294967296) × (leb top all ≡ all_below (λ (m : ℕ). holds t i a m && holds t i b m) k)
 
-abbrev decreases_loop : tie.decreases_loop
+abbrev decreases_loop : tie.decreases-loop-k
 decreases_loop t n i a b direct first second way other all₀ k₀ all k = n - k
 
-loop-holds : tie.Need-loop-init invariant_loop decreases_loop
+loop-holds : tie.Need-loop-k-init invariant_loop decreases_loop
 loop-holds c = (omega arith, omega arith, all_below_none _)
 
 lifted-requires : tie.Need-lifted-requires invariant_loop decreases_loop
 lifted-requires c κs =
-    let at-loop : tie.At-loop invariant_loop decreases_loop = search in let entry : tie.Start invariant_loop decreases_loop = search in let k = at-loop.loop.k in
-    let at = entry.pre.1 in (
+    let at-loop : tie.At-loop-k invariant_loop decreases_loop = search in let entry : tie.Start invariant_loop decreases_loop = search in let k = at-loop.loop-k.k in
+    let at = entry.requires.1 in (
       at entry.args.i entry.args.a (omega arith) (omega arith),
       at entry.args.a k (omega arith) (omega arith),
       at entry.args.i k (omega arith) (omega arith),
     )
 
-lifted-requires-2 : tie.Need-lifted-requires-2 invariant_loop decreases_loop
+lifted-requires-2 : tie.Need-lifted-requires-in-loop-k invariant_loop decreases_loop
 lifted-requires-2 c κs =
-    let at-loop : tie.At-loop invariant_loop decreases_loop = search in let entry : tie.Start invariant_loop decreases_loop = search in let k = at-loop.loop.k in
-    let at = entry.pre.1 in (
+    let at-loop : tie.At-loop-k invariant_loop decreases_loop = search in let entry : tie.Start invariant_loop decreases_loop = search in let k = at-loop.loop-k.k in
+    let at = entry.requires.1 in (
       at entry.args.i entry.args.b (omega arith) (omega arith),
       at entry.args.b k (omega arith) (omega arith),
       at entry.args.i k (omega arith) (omega arith),
     )
 
-loop-again : tie.Need-loop-preserved invariant_loop decreases_loop
-loop-again c = let at-lifted : tie.After-lifted invariant_loop decreases_loop = search in let at-loop : tie.At-loop invariant_loop decreases_loop = search in
-    let entry : tie.Start invariant_loop decreases_loop = search in let A = entry.args in let L = at-loop.loop in let at = entry.pre.1 in
+loop-again : tie.Need-loop-k-preserved invariant_loop decreases_loop
+loop-again c = let at-lifted : tie.After-lifted invariant_loop decreases_loop = search in let at-loop : tie.At-loop-k invariant_loop decreases_loop = search in
+    let entry : tie.Start invariant_loop decreases_loop = search in let A = entry.args in let L = at-loop.loop-k in let at = entry.requires.1 in
     let turn =
     ways_turn A.t.now A.i A.a A.b L.k L.all _ _ (at A.i A.a (omega arith) (omega arith)) (at A.i A.b (omega arith) (omega arith))
-    (at A.a L.k (omega arith) (omega arith)) (at A.b L.k (omega arith) (omega arith)) (at A.i L.k (omega arith) (omega arith)) L.inv.1
-    L.inv.2 at-lifted.lifted.ensures c.lifted2.ensures in
+    (at A.a L.k (omega arith) (omega arith)) (at A.b L.k (omega arith) (omega arith)) (at A.i L.k (omega arith) (omega arith)) L.invariant.1
+    L.invariant.2 at-lifted.lifted.ensures c.lifted-in-loop-k.ensures in
     (omega arith, turn.0, turn.1)
 
 returns : tie.Need-returns invariant_loop decreases_loop
 returns c = let entry : tie.Start invariant_loop decreases_loop = search in let A = entry.args in
-    let e : c.before.loop.k ≡ A.n = omega arith in
-    rw e at c.before.loop.invariant.2 ∙ all_below_both (holds A.t.now A.i A.a) (holds A.t.now A.i A.b) A.n
+    let e : c.loop-k.k ≡ A.n = omega arith in
+    rw e at c.loop-k.invariant.2 ∙ all_below_both (holds A.t.now A.i A.a) (holds A.t.now A.i A.b) A.n
 
 pub ways_hold_spec : {M : Type 1} → statement M
 ways_hold_spec =

@@ -13,18 +13,18 @@ use Rattle.part_jobwords.proofs.Changes.{add_front}
 use Rattle.part_jobwords.proofs.changing.add_job.Statement.{statement}
 use Rattle.part_jobwords.proofs.changing.add_job.Tie as tie
 
-clear-jobs-requires : tie.Need-clear-jobs-requires
+clear-jobs-requires : tie.Need-clear_jobs-requires
 clear-jobs-requires c κs = simp length-set (omega arith, omega arith)
 
-same_length : tie.Need-same-length
-same_length c = let cleared : tie.After-clear-jobs = search in let written : tie.After-write-job = search in
-    omega (arith, stored_length written.write-job.last.0 _ count_at _ _ _ cleared.clear-jobs.ensures)
+same_length : tie.Need-shape_of-w
+same_length c = let cleared : tie.After-clear_jobs = search in let written : tie.After-write_job = search in
+    omega (arith, stored_length written.write_job.new.w _ count_at _ _ _ cleared.clear_jobs.ensures)
 
 returns : tie.Need-returns
-returns c = let cleared : tie.After-clear-jobs = search in let written : tie.After-write-job = search in let made : tie.After-new-job = search in
+returns c = let cleared : tie.After-clear_jobs = search in let written : tie.After-write_job = search in let made : tie.After-new_job = search in
     let entry : tie.Start = search in let A = entry.args in let W = A.w.now in
-    let is = written.write-job.ensures ∙ ap (λ (j : Job). overwritten W (job_start (word_in W count_at)) (job_words j)) made.new_job_lem.ensures in
-    add_front W written.write-job.last.0 _ (new_job A.points A.batch A.due) (omega arith) (omega arith) entry.pre.2 is cleared.clear-jobs.ensures
+    let is = written.write_job.ensures ∙ ap (λ (j : Job). overwritten W (job_start (word_in W count_at)) (job_words j)) made.new_job.ensures in
+    add_front W written.write_job.new.w _ (new_job A.points A.batch A.due) (omega arith) (omega arith) entry.requires.2 is cleared.clear_jobs.ensures
 
 pub add_job_spec : {M : Type 1} → statement M
 add_job_spec =

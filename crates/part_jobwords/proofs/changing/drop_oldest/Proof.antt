@@ -9,18 +9,18 @@ use Rattle.part_jobwords.proofs.changing.drop_oldest.Statement.{statement}
 use Rattle.part_jobwords.proofs.changing.drop_oldest.Tie as tie
 use Rattle.part_boardwords.specs.Layout.{count_at}
 
-clear-jobs-requires : tie.Need-clear-jobs-requires
+clear-jobs-requires : tie.Need-clear_jobs-requires
 clear-jobs-requires c κs = simp length-set (omega arith, omega arith)
 
-same_length : tie.Need-same-length
-same_length c = let cleared : tie.After-clear-jobs = search in let moved : tie.After-move-jobs-down = search in
-    omega (arith, stored_length moved.move-jobs-down.last.0 _ count_at _ _ _ cleared.clear-jobs.ensures)
+same_length : tie.Need-shape_of-w
+same_length c = let cleared : tie.After-clear_jobs = search in let moved : tie.After-move_jobs_down = search in
+    omega (arith, stored_length moved.move_jobs_down.new.w _ count_at _ _ _ cleared.clear_jobs.ensures)
 
 returns : tie.Need-returns
-returns c = let cleared : tie.After-clear-jobs = search in let moved : tie.After-move-jobs-down = search in let entry : tie.Start = search in
+returns c = let cleared : tie.After-clear_jobs = search in let moved : tie.After-move_jobs_down = search in let entry : tie.Start = search in
     let w = entry.args.w.now in
-    left_front w moved.move-jobs-down.last.0 _ (get_or w count_at 0 - 1) (omega arith) (omega arith) (omega arith) entry.pre.3
-    moved.move-jobs-down.ensures cleared.clear-jobs.ensures
+    left_front w moved.move_jobs_down.new.w _ (get_or w count_at 0 - 1) (omega arith) (omega arith) (omega arith) entry.requires.3
+    moved.move_jobs_down.ensures cleared.clear_jobs.ensures
 
 pub drop_oldest_spec : {M : Type 1} → statement M
 drop_oldest_spec =

@@ -7,8 +7,8 @@ use Rattle.part_jobwords.proofs.changing.mark_sent.Tie as tie
 
 returns : tie.Need-returns
 returns c =
-    let cleared : tie.After-clear-jobs = search in let sent : tie.After-set-marks = search in let entry : tie.Start = search in let A = entry.args in
-    sent_front A.w.now sent.set-marks.last.0 _ A.n (omega arith) (omega arith) sent.set-marks.ensures cleared.clear-jobs.ensures
+    let cleared : tie.After-clear_jobs = search in let sent : tie.After-set_marks = search in let entry : tie.Start = search in let A = entry.args in
+    sent_front A.w.now sent.set_marks.new.w _ A.n (omega arith) (omega arith) sent.set_marks.ensures cleared.clear_jobs.ensures
 
 pub mark_sent_spec : {M : Type 1} → statement M
 mark_sent_spec =

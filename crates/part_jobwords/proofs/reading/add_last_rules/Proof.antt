@@ -17,11 +17,11 @@ use Rattle.part_jobwords.proofs.reading.add_last_rules.Tie as tie
 abbrev by_batch : tie.Start → List Rule
 by_batch c = let A = c.args in batch_rules (tray_gap A.settings) A.batch A.last (jobs_of (held_jobs (word_in A.w.now)))
 
-batch_made : (c : tie.After-batch-rule) → (let entry : tie.Start = search in c.batch-rule.result ≡ maybe_from (by_batch entry))
-batch_made c = let gap : tie.After-tray-gap = search in let entry : tie.Start = search in let A = entry.args in
-    c.batch-rule.ensures ∙ ap (λ (d : ℕ). maybe_from (batch_rules d A.batch A.last (jobs_of (held_jobs (word_in A.w.now))))) gap.tray_gap_lem.ensures
+batch_made : (c : tie.After-batch_rule-by_batch) → (let entry : tie.Start = search in c.batch_rule-by_batch.result ≡ maybe_from (by_batch entry))
+batch_made c = let gap : tie.After-tray_gap = search in let entry : tie.Start = search in let A = entry.args in
+    c.batch_rule-by_batch.ensures ∙ ap (λ (d : ℕ). maybe_from (batch_rules d A.batch A.last (jobs_of (held_jobs (word_in A.w.now))))) gap.tray_gap.ensures
 
-few_by_batch : (c : tie.After-batch-rule) → c.batch-rule.result.count ≤ 1
+few_by_batch : (c : tie.After-batch_rule-by_batch) → c.batch_rule-by_batch.result.count ≤ 1
 few_by_batch c = let entry : tie.Start = search in let A = entry.args in
     omega (
       arith,
@@ -29,32 +29,32 @@ few_by_batch c = let entry : tie.Start = search in let A = entry.args in
       batch_few (tray_gap A.settings) A.batch A.last (jobs_of (held_jobs (word_in A.w.now))),
     )
 
-few_by_due : (c : tie.After-due-rule) → c.due-rule.result.count ≤ 1
+few_by_due : (c : tie.After-due_rule-by_due) → c.due_rule-by_due.result.count ≤ 1
 few_by_due c = let entry : tie.Start = search in
-    omega (arith, ap (λ (m : Maybe). m.count) c.due-rule.ensures, due_few entry.args.due entry.args.last)
+    omega (arith, ap (λ (m : Maybe). m.count) c.due_rule-by_due.ensures, due_few entry.args.due entry.args.last)
 
-add-next : tie.Need-overflow-add-next
-add-next c = let made : tie.After-batch-rule = search in let entry : tie.Start = search in
-    omega (arith, few_by_batch made, entry.pre.0.fits)
+add-next : tie.Need-overflow_add-next
+add-next c = let made : tie.After-batch_rule-by_batch = search in let entry : tie.Start = search in
+    omega (arith, few_by_batch made, entry.requires.0.fits)
 
-mul-two : tie.Need-overflow-mul-two
-mul-two c = let made : tie.After-batch-rule = search in let entry : tie.Start = search in
-    omega (arith, few_by_batch made, entry.pre.0.fits)
+mul-two : tie.Need-offset_bounds-all-next
+mul-two c = let made : tie.After-batch_rule-by_batch = search in let entry : tie.Start = search in
+    omega (arith, few_by_batch made, entry.requires.0.fits)
 
-element-set-from-two : tie.Need-element-set-from-two
-element-set-from-two c = let made : tie.After-batch-rule = search in let entry : tie.Start = search in
-    omega (arith, few_by_batch made, entry.pre.0.fits)
+element-set-from-two : tie.Need-bounds-all-next
+element-set-from-two c = let made : tie.After-batch_rule-by_batch = search in let entry : tie.Start = search in
+    omega (arith, few_by_batch made, entry.requires.0.fits)
 
-add-all : tie.Need-overflow-add-all
-add-all c = let due : tie.After-due-rule = search in let made : tie.After-batch-rule = search in let entry : tie.Start = search in
-    omega (arith, few_by_batch made, few_by_due due, entry.pre.0.fits)
+add-all : tie.Need-overflow_add-all
+add-all c = let due : tie.After-due_rule-by_due = search in let made : tie.After-batch_rule-by_batch = search in let entry : tie.Start = search in
+    omega (arith, few_by_batch made, few_by_due due, entry.requires.0.fits)
 
 returns : tie.Need-returns
-returns c = let due : tie.After-due-rule = search in let made : tie.After-batch-rule = search in let entry : tie.Start = search in let A = entry.args in
+returns c = let due : tie.After-due_rule-by_due = search in let made : tie.After-batch_rule-by_batch = search in let entry : tie.Start = search in let A = entry.args in
     let both =
-    both_stored {q = A.rules} 0 made.batch-rule.result due.due-rule.result (by_batch entry) (due_rules A.due A.last) entry.pre.0
+    both_stored {q = A.rules} 0 made.batch_rule-by_batch.result due.due_rule-by_due.result (by_batch entry) (due_rules A.due A.last) entry.requires.0
     (batch_made made) (batch_few (tray_gap A.settings) A.batch A.last (jobs_of (held_jobs (word_in A.w.now))))
-    due.due-rule.ensures (due_few A.due A.last) in
+    due.due_rule-by_due.ensures (due_few A.due A.last) in
     both.0.tidy ∙ ap rules_from both.1
 
 pub add_last_rules_spec : {M : Type 1} → statement M

@@ -8,25 +8,25 @@ use borrow.Author.Rules.{rules}
 use Rattle.part_jobwords.proofs.reading.batch_rule.Statement.{statement}
 use Rattle.part_jobwords.proofs.reading.batch_rule.Tie as tie
 
-returns : tie.Need-returns
+returns : tie.Need-returns-then-batch-eq0
 returns c = let entry : tie.Start = search in let A = entry.args in
-    c.no-rule.ensures ∙ ap maybe_from (batch_none A.d A.batch A.last (jobs_of (held_jobs (word_in A.w.now))) c.before.if1.true)
+    c.no_rule.ensures ∙ ap maybe_from (batch_none A.d A.batch A.last (jobs_of (held_jobs (word_in A.w.now))) c.if-batch-eq0.true)
 
-returns-2 : tie.Need-returns-2
-returns-2 c = let End-read : tie.After-newest-end = search in let tested : tie.Else1 = search in let entry : tie.Start = search in
-    c.no-rule2.ensures
+returns-2 : tie.Need-returns-then-end-eq0
+returns-2 c = let End-read : tie.After-newest_end-end = search in let tested : tie.Else-batch-eq0 = search in let entry : tie.Start = search in
+    c.no_rule-then-end-eq0.ensures
     ∙ ap maybe_from
-    (end_none entry.args.d entry.args.last End-read.newest-end.result c.before.if2.true
-    ∙ End-read.newest-end.ensures entry.args.d entry.args.last
-    ∙ batch_some entry.args.d entry.args.batch entry.args.last (jobs_of (held_jobs (word_in entry.args.w.now))) tested.if1.left)
+    (end_none entry.args.d entry.args.last End-read.newest_end-end.result c.if-end-eq0.true
+    ∙ End-read.newest_end-end.ensures entry.args.d entry.args.last
+    ∙ batch_some entry.args.d entry.args.batch entry.args.last (jobs_of (held_jobs (word_in entry.args.w.now))) tested.if-batch-eq0.false)
 
-returns-3 : tie.Need-returns-3
-returns-3 c = let End-read : tie.After-newest-end = search in let tested : tie.Else1 = search in let entry : tie.Start = search in
-    c.one-rule.ensures
+returns-3 : tie.Need-returns
+returns-3 c = let End-read : tie.After-newest_end-end = search in let tested : tie.Else-batch-eq0 = search in let entry : tie.Start = search in
+    c.one_rule.ensures
     ∙ ap maybe_from
-    (end_at entry.args.d entry.args.last End-read.newest-end.result (omega arith)
-    ∙ End-read.newest-end.ensures entry.args.d entry.args.last
-    ∙ batch_some entry.args.d entry.args.batch entry.args.last (jobs_of (held_jobs (word_in entry.args.w.now))) tested.if1.left)
+    (end_at entry.args.d entry.args.last End-read.newest_end-end.result (omega arith)
+    ∙ End-read.newest_end-end.ensures entry.args.d entry.args.last
+    ∙ batch_some entry.args.d entry.args.batch entry.args.last (jobs_of (held_jobs (word_in entry.args.w.now))) tested.if-batch-eq0.false)
 
 pub batch_rule_spec : {M : Type 1} → statement M
 batch_rule_spec =

@@ -12,17 +12,17 @@ use borrow.Author.Rules.{rules}
 use Rattle.part_jobwords.proofs.reading.is_full.Statement.{statement}
 use Rattle.part_jobwords.proofs.reading.is_full.Tie as tie
 
-returns : tie.Need-returns
+returns : tie.Need-returns-then-w
 returns c = let entry : tie.Start = search in let A = entry.args in
     let w = word_in A.w.now in
-    let held = held_jobs_lem w entry.pre.1.count in
+    let held = held_jobs_lem w entry.requires.1.count in
     λ s e. full_jobs s (jobs_of (held_jobs w)) e A.m (omega (arith, held))
 
-returns-2 : tie.Need-returns-2
+returns-2 : tie.Need-returns
 returns-2 c = let entry : tie.Start = search in let A = entry.args in
     let w = word_in A.w.now in
-    let held = held_jobs_lem w entry.pre.1.count in
-    λ s e. ap (λ (x : ℕ). ltb most_points (x + A.m)) entry.pre.2 ∙ full_points s (jobs_of (held_jobs w)) e A.m (omega (arith, held))
+    let held = held_jobs_lem w entry.requires.1.count in
+    λ s e. ap (λ (x : ℕ). ltb most_points (x + A.m)) entry.requires.2 ∙ full_points s (jobs_of (held_jobs w)) e A.m (omega (arith, held))
 
 pub is_full_spec : {M : Type 1} → statement M
 is_full_spec = tie.close (tie.spec (λ c. search rules) (λ c. search rules) returns (λ c. search rules) (λ c. omega arith) returns-2)

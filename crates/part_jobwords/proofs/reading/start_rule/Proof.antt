@@ -9,15 +9,15 @@ use Rattle.part_lines.proofs.RuleLaws.{start_rule}
 use Rattle.part_jobwords.proofs.reading.start_rule.Statement.{statement}
 use Rattle.part_jobwords.proofs.reading.start_rule.Tie as tie
 
-returns : tie.Need-returns
-returns c = let A = c.before.before.args in
-    c.no-rule.ensures ∙ ap (λ (b : Bool). maybe_from (start_rule A.time A.x b)) (sym c.before.if1.true)
+returns : tie.Need-returns-then-sent
+returns c = let A = c.args in
+    c.no_rule.ensures ∙ ap (λ (b : Bool). maybe_from (start_rule A.time A.x b)) (sym c.if-sent.true)
 
-returns-2 : tie.Need-returns-2
+returns-2 : tie.Need-returns
 returns-2 c = let entry : tie.Start = search in
-    c.one-rule.ensures
-    ∙ ap (λ (r : Rule). maybe_from (r ∷ [])) c.before.not_before_lem.ensures
-    ∙ ap (λ (b : Bool). maybe_from (start_rule entry.args.time entry.args.x b)) (sym c.before.before.if1.false)
+    c.one_rule.ensures
+    ∙ ap (λ (r : Rule). maybe_from (r ∷ [])) c.not_before.ensures
+    ∙ ap (λ (b : Bool). maybe_from (start_rule entry.args.time entry.args.x b)) (sym c.if-sent.false)
 
 pub start_rule_spec : {M : Type 1} → statement M
 start_rule_spec = tie.close (tie.spec (λ c κs. search rules) returns (λ c κs. search rules) (λ c κs. search rules) returns-2)

@@ -18,17 +18,17 @@ use borrow.Author.Rules.{rules}
 use Rattle.part_jobwords.proofs.reading.start_rules.Statement.{statement}
 use Rattle.part_jobwords.proofs.reading.start_rules.Tie as tie
 
-abbrev invariant_loop : tie.invariant_loop
+abbrev invariant_loop : tie.invariant-loop-k
 invariant_loop w time count rules₀ x₀ k₀ rules x k = (k ≤ count)
     × Growing (starts time 1 (jobs_of (held_jobs (word_in w)))) rules (starts time x (drop k (jobs_of (held_jobs (word_in w))))) (16 - k)
     × (x + total (drop k (jobs_of (held_jobs (word_in w)))) ≡ 1 + total (jobs_of (held_jobs (word_in w))))
     × (length rules.rules ≡ most_rules)
 
-abbrev decreases_loop : tie.decreases_loop
+abbrev decreases_loop : tie.decreases-loop-k
 decreases_loop w time count rules₀ x₀ k₀ rules x k = count - k
 
-loop-holds : tie.Need-loop-init invariant_loop decreases_loop
-loop-holds c = let entry : tie.Start invariant_loop decreases_loop = search in let r = c.no-rules.result in let e = c.no-rules.ensures in
+loop-holds : tie.Need-loop-k-init invariant_loop decreases_loop
+loop-holds c = let entry : tie.Start invariant_loop decreases_loop = search in let r = c.no_rules-rules.result in let e = c.no_rules-rules.ensures in
     let js = jobs_of (held_jobs (word_in entry.args.w.now)) in (
       omega arith,
       record {
@@ -39,49 +39,49 @@ loop-holds c = let entry : tie.Start invariant_loop decreases_loop = search in l
       ap (λ (q : Rules). length q.rules) e ∙ length_padded most_rules no_rule [],
     )
 
-add-rules : tie.Need-overflow-add-rules invariant_loop decreases_loop
-add-rules c = let ruled : tie.After-start-rule invariant_loop decreases_loop = search in let found : tie.After-job-at invariant_loop decreases_loop = search in
-    let at-loop : tie.At-loop invariant_loop decreases_loop = search in let entry : tie.Start invariant_loop decreases_loop = search in let L = at-loop.loop in
+add-rules : tie.Need-overflow_add-rules invariant_loop decreases_loop
+add-rules c = let ruled : tie.After-start_rule-made invariant_loop decreases_loop = search in let found : tie.After-job_at-job invariant_loop decreases_loop = search in
+    let at-loop : tie.At-loop-k invariant_loop decreases_loop = search in let entry : tie.Start invariant_loop decreases_loop = search in let L = at-loop.loop-k in
     let A = entry.args in
-    let one : ruled.start-rule.result.count ≤ 1 =
-    omega (arith, ap (λ (m : Maybe). m.count) ruled.start-rule.ensures, starts_one A.time L.x found.job-at.result.sent) in
+    let one : ruled.start_rule-made.result.count ≤ 1 =
+    omega (arith, ap (λ (m : Maybe). m.count) ruled.start_rule-made.ensures, starts_one A.time L.x found.job_at-job.result.sent) in
     omega (arith, one)
 
-add-x : tie.Need-overflow-add-x invariant_loop decreases_loop
+add-x : tie.Need-overflow_add-x invariant_loop decreases_loop
 unfolding total
-add-x c = let found : tie.After-job-at invariant_loop decreases_loop = search in let turn : tie.In-loop invariant_loop decreases_loop = search in
-    let at-loop : tie.At-loop invariant_loop decreases_loop = search in let entry : tie.Start invariant_loop decreases_loop = search in
+add-x c = let found : tie.After-job_at-job invariant_loop decreases_loop = search in let turn : tie.In-loop-k invariant_loop decreases_loop = search in
+    let at-loop : tie.At-loop-k invariant_loop decreases_loop = search in let entry : tie.Start invariant_loop decreases_loop = search in
     let w = word_in entry.args.w.now in
-    let next = job_next w entry.pre.1.count at-loop.loop.k _ turn.loop-test.taken found.job-at.ensures in
+    let next = job_next w entry.requires.1.count at-loop.loop-k.k _ turn.loop-k-test.true found.job_at-job.ensures in
     omega (arith, ap total next)
 
-loop-again : tie.Need-loop-preserved invariant_loop decreases_loop
+loop-again : tie.Need-loop-k-preserved invariant_loop decreases_loop
 unfolding total
-loop-again c = let made : tie.After-start-rule invariant_loop decreases_loop = search in let found : tie.After-job-at invariant_loop decreases_loop = search in
-    let turn : tie.In-loop invariant_loop decreases_loop = search in let at-loop : tie.At-loop invariant_loop decreases_loop = search in
+loop-again c = let made : tie.After-start_rule-made invariant_loop decreases_loop = search in let found : tie.After-job_at-job invariant_loop decreases_loop = search in
+    let turn : tie.In-loop-k invariant_loop decreases_loop = search in let at-loop : tie.At-loop-k invariant_loop decreases_loop = search in
     let entry : tie.Start invariant_loop decreases_loop = search in
     let w = word_in entry.args.w.now in
     let t = entry.args.time in
-    let L = at-loop.loop in
-    let j = found.job-at.result in
+    let L = at-loop.loop-k in
+    let j = found.job_at-job.result in
     let later = drop (L.k + 1) (jobs_of (held_jobs w)) in
-    let next = job_next w entry.pre.1.count L.k j turn.loop-test.taken found.job-at.ensures in (
+    let next = job_next w entry.requires.1.count L.k j turn.loop-k-test.true found.job_at-job.ensures in (
       omega arith,
-      grows _ (start_rule t L.x j.sent) (starts t (L.x + j.points) later) 1 (16 - (L.k + 1)) L.inv.1
+      grows _ (start_rule t L.x j.sent) (starts t (L.x + j.points) later) 1 (16 - (L.k + 1)) L.invariant.1
           (ap (starts t L.x) next ∙ starts_next t L.x j later)
-          (stored L.rules made.start-rule.result _ (Room_less L.inv.1.room 1 (omega arith)) made.start-rule.ensures
+          (stored L.rules made.start_rule-made.result _ (Room_less L.invariant.1.room 1 (omega arith)) made.start_rule-made.ensures
           (starts_one t L.x j.sent))
           (starts_one t L.x j.sent) (omega arith),
       omega (arith, ap total next),
-      simp length-set L.inv.3,
+      simp length-set L.invariant.3,
     )
 
 returns : tie.Need-returns invariant_loop decreases_loop
 unfolding starts
 returns c = let entry : tie.Start invariant_loop decreases_loop = search in
     let w = word_in entry.args.w.now in
-    let L = c.before.loop in
-    grown L.invariant.1 (ap (starts entry.args.time L.x) (job_over w entry.pre.1.count L.k c.loop-test.false))
+    let L = c.loop-k in
+    grown L.invariant.1 (ap (starts entry.args.time L.x) (job_over w entry.requires.1.count L.k c.loop-k-test.false))
 
 pub start_rules_spec : {M : Type 1} → statement M
 start_rules_spec =

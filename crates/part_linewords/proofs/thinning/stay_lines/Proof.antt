@@ -10,34 +10,34 @@ use Rattle.part_linewords.proofs.Lines.{turned, lines_turn, lines_few, lines_don
 use Rattle.part_linewords.proofs.thinning.stay_lines.Statement.{statement}
 use Rattle.part_linewords.proofs.thinning.stay_lines.Tie as tie
 
-abbrev invariant_loop : tie.invariant_loop
+abbrev invariant_loop : tie.invariant-loop-k
 invariant_loop w₀ f m k₀ w k = (k ≤ 16) × (w ≡ turned (stays_of f m) w₀ k) × (length w ≡ length w₀)
 
-abbrev decreases_loop : tie.decreases_loop
+abbrev decreases_loop : tie.decreases-loop-k
 decreases_loop w₀ f m k₀ w k = 16 - k
 
-loop-holds : tie.Need-loop-init invariant_loop decreases_loop
+loop-holds : tie.Need-loop-k-init invariant_loop decreases_loop
 loop-holds c = (omega arith, overwritten_none _ _ _, refl)
 
-stay-line-requires : tie.Need-stay-line-requires invariant_loop decreases_loop
+stay-line-requires : tie.Need-stay_line-requires invariant_loop decreases_loop
 stay-line-requires c κs =
-    let turn : tie.At-loop invariant_loop decreases_loop = search in let entry : tie.Start invariant_loop decreases_loop = search in let A = entry.args in let L = turn.loop in
+    let turn : tie.At-loop-k invariant_loop decreases_loop = search in let entry : tie.Start invariant_loop decreases_loop = search in let A = entry.args in let L = turn.loop-k in
     let stays = stays_of A.f A.m in
-    let few = lines_few stays A.w.now L.w L.k _ L.inv.1 (omega arith) c.line-start.ensures entry.pre.1.0 in
+    let few = lines_few stays A.w.now L.w L.k _ L.invariant.1 (omega arith) c.line_start.ensures entry.requires.1.0 in
     (omega arith, few, omega arith)
 
-loop-again : tie.Need-loop-preserved invariant_loop decreases_loop
-loop-again c = let entry : tie.Start invariant_loop decreases_loop = search in let stayed : tie.After-stay-line invariant_loop decreases_loop = search in
-    let start : tie.After-line-start invariant_loop decreases_loop = search in let turn : tie.At-loop invariant_loop decreases_loop = search in let A = entry.args in
-    let L = turn.loop in
+loop-again : tie.Need-loop-k-preserved invariant_loop decreases_loop
+loop-again c = let entry : tie.Start invariant_loop decreases_loop = search in let stayed : tie.After-stay_line invariant_loop decreases_loop = search in
+    let start : tie.After-line_start invariant_loop decreases_loop = search in let turn : tie.At-loop-k invariant_loop decreases_loop = search in let A = entry.args in
+    let L = turn.loop-k in
     let stays = stays_of A.f A.m in
-    let next = lines_turn stays A.w.now L.w _ L.k _ L.inv.1 (omega arith) start.line-start.ensures stayed.stay-line.ensures in
+    let next = lines_turn stays A.w.now L.w _ L.k _ L.invariant.1 (omega arith) start.line_start.ensures stayed.stay_line.ensures in
     (omega arith, next, omega arith)
 
 returns : tie.Need-returns invariant_loop decreases_loop
 returns c = let entry : tie.Start invariant_loop decreases_loop = search in
-    let turn = c.before in
-    let L = turn.loop in
+    let turn = c in
+    let L = turn.loop-k in
     let all = stayed_all entry.args.f entry.args.m (lines_read (word_in entry.args.w.now)) in
     lines_done (stays_of entry.args.f entry.args.m) entry.args.w.now L.w L.k _ L.invariant.1 (omega arith) all
 

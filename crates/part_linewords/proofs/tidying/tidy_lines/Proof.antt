@@ -10,32 +10,32 @@ use Rattle.part_linewords.proofs.Lines.{turned, lines_turn, lines_few, lines_don
 use Rattle.part_linewords.proofs.tidying.tidy_lines.Statement.{statement}
 use Rattle.part_linewords.proofs.tidying.tidy_lines.Tie as tie
 
-abbrev invariant_loop : tie.invariant_loop
+abbrev invariant_loop : tie.invariant-loop-k
 invariant_loop w₀ k₀ w k = (k ≤ 16) × (w ≡ turned tidied w₀ k) × (length w ≡ length w₀)
 
-abbrev decreases_loop : tie.decreases_loop
+abbrev decreases_loop : tie.decreases-loop-k
 decreases_loop w₀ k₀ w k = 16 - k
 
-loop-holds : tie.Need-loop-init invariant_loop decreases_loop
+loop-holds : tie.Need-loop-k-init invariant_loop decreases_loop
 loop-holds c = (omega arith, overwritten_none _ _ _, refl)
 
-tidy-line-requires : tie.Need-tidy-line-requires invariant_loop decreases_loop
-tidy-line-requires c κs = let turn : tie.At-loop invariant_loop decreases_loop = search in let entry : tie.Start invariant_loop decreases_loop = search in let L = turn.loop in
-    let few = lines_few tidied entry.args.w.now L.w L.k _ L.inv.1 (omega arith) c.line-start.ensures entry.pre.1 in
+tidy-line-requires : tie.Need-tidy_line-requires invariant_loop decreases_loop
+tidy-line-requires c κs = let turn : tie.At-loop-k invariant_loop decreases_loop = search in let entry : tie.Start invariant_loop decreases_loop = search in let L = turn.loop-k in
+    let few = lines_few tidied entry.args.w.now L.w L.k _ L.invariant.1 (omega arith) c.line_start.ensures entry.requires.1 in
     (omega arith, few)
 
-loop-again : tie.Need-loop-preserved invariant_loop decreases_loop
-loop-again c = let entry : tie.Start invariant_loop decreases_loop = search in let tidied-line : tie.After-tidy-line invariant_loop decreases_loop = search in
-    let start : tie.After-line-start invariant_loop decreases_loop = search in let turn : tie.At-loop invariant_loop decreases_loop = search in
+loop-again : tie.Need-loop-k-preserved invariant_loop decreases_loop
+loop-again c = let entry : tie.Start invariant_loop decreases_loop = search in let tidied-line : tie.After-tidy_line invariant_loop decreases_loop = search in
+    let start : tie.After-line_start invariant_loop decreases_loop = search in let turn : tie.At-loop-k invariant_loop decreases_loop = search in
     let W = entry.args.w.now in
-    let L = turn.loop in
-    let next = lines_turn tidied W L.w _ L.k _ L.inv.1 (omega arith) start.line-start.ensures tidied-line.tidy-line.ensures in
+    let L = turn.loop-k in
+    let next = lines_turn tidied W L.w _ L.k _ L.invariant.1 (omega arith) start.line_start.ensures tidied-line.tidy_line.ensures in
     (omega arith, next, omega arith)
 
 returns : tie.Need-returns invariant_loop decreases_loop
 returns c = let entry : tie.Start invariant_loop decreases_loop = search in
-    let turn = c.before in
-    let L = turn.loop in
+    let turn = c in
+    let L = turn.loop-k in
     lines_done tidied entry.args.w.now L.w L.k _ L.invariant.1 (omega arith) (tidied_all (lines_read (word_in entry.args.w.now)))
 
 pub tidy_lines_spec : {M : Type 1} → statement M

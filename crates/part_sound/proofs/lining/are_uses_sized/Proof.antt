@@ -13,36 +13,36 @@ use Rattle.part_sound.proofs.InWords.{use_next, use_over}
 use Rattle.part_sound.proofs.lining.are_uses_sized.Statement.{statement}
 use Rattle.part_sound.proofs.lining.are_uses_sized.Tie as tie
 
-abbrev invariant_loop : tie.invariant_loop
+abbrev invariant_loop : tie.invariant-loop-k
 invariant_loop w at n count ok₀ k₀ ok k =
     (k ≤ count) × ((ok && all_of (sized_use n) (drop k (line_of (line_read (word_in w) at)))) ≡ all_of (sized_use n) (line_of (line_read (word_in w) at)))
 
-abbrev decreases_loop : tie.decreases_loop
+abbrev decreases_loop : tie.decreases-loop-k
 decreases_loop w at n count ok₀ k₀ ok k = count - k
 
-loop-holds : tie.Need-loop-init invariant_loop decreases_loop
+loop-holds : tie.Need-loop-k-init invariant_loop decreases_loop
 loop-holds c = (omega arith, refl)
 
-loop-again : tie.Need-loop-preserved invariant_loop decreases_loop
+loop-again : tie.Need-loop-k-preserved invariant_loop decreases_loop
 loop-again c =
-    let read = c.before in
-    let inside : tie.In-loop invariant_loop decreases_loop = search in
-    let turn : tie.At-loop invariant_loop decreases_loop = search in
+    let read = c in
+    let inside : tie.In-loop-k invariant_loop decreases_loop = search in
+    let turn : tie.At-loop-k invariant_loop decreases_loop = search in
     let entry : tie.Start invariant_loop decreases_loop = search in
     let A = entry.args in
     let w = word_in A.w.now in
-    let L = turn.loop in
-    let next = use_next w A.at entry.pre.1 L.k _ inside.loop-test.taken read.use_at_lem.ensures in
-    (omega arith, all_next (sized_use A.n) (line_of (line_read w A.at)) L.k L.ok _ _ L.inv.1 next c.is-use-sized.ensures)
+    let L = turn.loop-k in
+    let next = use_next w A.at entry.requires.1 L.k _ inside.loop-k-test.true read.use_at-u.ensures in
+    (omega arith, all_next (sized_use A.n) (line_of (line_read w A.at)) L.k L.ok _ _ L.invariant.1 next c.is_use_sized-ok.ensures)
 
 returns : tie.Need-returns invariant_loop decreases_loop
 returns c =
-    let turn = c.before in
+    let turn = c in
     let entry : tie.Start invariant_loop decreases_loop = search in
     let A = entry.args in
     let w = word_in A.w.now in
-    let L = turn.loop in
-    let over = use_over w A.at entry.pre.1 L.k c.loop-test.false in
+    let L = turn.loop-k in
+    let over = use_over w A.at entry.requires.1 L.k c.loop-k-test.false in
     all_end (sized_use A.n) (line_of (line_read w A.at)) L.k L.ok L.invariant.1 over
 
 pub are_uses_sized_spec : {M : Type 1} → statement M

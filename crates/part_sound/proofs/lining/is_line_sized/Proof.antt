@@ -6,15 +6,15 @@ use Rattle.part_sound.proofs.Flags.{fails, passes}
 use Rattle.part_sound.proofs.lining.is_line_sized.Statement.{statement}
 use Rattle.part_sound.proofs.lining.is_line_sized.Tie as tie
 
-returns : tie.Need-returns
+returns : tie.Need-returns-then-w-at
 unfolding sized_line
-returns c = fails _ (lt-leb _ _ c.if1.true)
+returns c = fails _ (lt-leb _ _ c.if-w-at.true)
 
-returns-2 : tie.Need-returns-2
+returns-2 : tie.Need-returns
 unfolding sized_line
 returns-2 c =
-    let few = c.before in
-    passes (le-leb _ _ few.if1.false) c.are-uses-sized.ensures
+    let few = c in
+    passes (le-leb _ _ few.if-w-at.false) c.are_uses_sized.ensures
 
 pub is_line_sized_spec : {M : Type 1} → statement M
 is_line_sized_spec =

@@ -12,28 +12,28 @@ use Rattle.part_boardwords.proofs.Boards.{job_next, job_over}
 use Rattle.part_sound.proofs.sent.is_sent_first.Statement.{statement}
 use Rattle.part_sound.proofs.sent.is_sent_first.Tie as tie
 
-abbrev invariant_loop : tie.invariant_loop
+abbrev invariant_loop : tie.invariant-loop-k
 invariant_loop w count ok₀ all₀ k₀ ok all k =
     (k ≤ count) × ((ok && sent_from all (drop k (jobs_of (held_jobs (word_in w))))) ≡ sent_from true (jobs_of (held_jobs (word_in w))))
 
-abbrev decreases_loop : tie.decreases_loop
+abbrev decreases_loop : tie.decreases-loop-k
 decreases_loop w count ok₀ all₀ k₀ ok all k = count - k
 
-loop-holds : tie.Need-loop-init invariant_loop decreases_loop
+loop-holds : tie.Need-loop-k-init invariant_loop decreases_loop
 loop-holds c = (omega arith, refl)
 
-loop-again : tie.Need-loop-preserved invariant_loop decreases_loop
+loop-again : tie.Need-loop-k-preserved invariant_loop decreases_loop
 unfolding sent_from
-loop-again c = let turn : tie.In-loop invariant_loop decreases_loop = search in let at-loop : tie.At-loop invariant_loop decreases_loop = search in
-    let entry : tie.Start invariant_loop decreases_loop = search in let L = at-loop.loop in
-    let next = job_next (word_in entry.args.w.now) entry.pre.1 L.k _ turn.loop-test.taken c.before.before.job-at.ensures in
-    (omega arith, flag_next L.ok _ _ (rw next at L.inv.1))
+loop-again c = let turn : tie.In-loop-k invariant_loop decreases_loop = search in let at-loop : tie.At-loop-k invariant_loop decreases_loop = search in
+    let entry : tie.Start invariant_loop decreases_loop = search in let L = at-loop.loop-k in
+    let next = job_next (word_in entry.args.w.now) entry.requires.1 L.k _ turn.loop-k-test.true c.job_at-job.ensures in
+    (omega arith, flag_next L.ok _ _ (rw next at L.invariant.1))
 
 returns : tie.Need-returns invariant_loop decreases_loop
 unfolding sent_from
 returns c = let entry : tie.Start invariant_loop decreases_loop = search in
-    let L = c.before.loop in
-    flag_end L.ok (rw (job_over (word_in entry.args.w.now) entry.pre.1 L.k c.loop-test.false) at L.invariant.1)
+    let L = c.loop-k in
+    flag_end L.ok (rw (job_over (word_in entry.args.w.now) entry.requires.1 L.k c.loop-k-test.false) at L.invariant.1)
 
 pub is_sent_first_spec : {M : Type 1} → statement M
 is_sent_first_spec =
