@@ -10,18 +10,18 @@ use borrow.Author.Rules.{rules}
 use Rattle.call_clocking.proofs.clock.Statement.{statement}
 use Rattle.call_clocking.proofs.clock.Tie as tie
 
-returns : tie.Need-returns
+returns : tie.Need-returns-then-not-is_sound
 returns c = let entry : tie.Start = search in
     unanswered entry.args.w.now _ _ (plain 6)
-    (unsound (lent_board entry.args.w.now) entry.args.c (sym c.before.is_sound.ensures ∙ not-true _ c.if1.true))
+    (unsound (lent_board entry.args.w.now) entry.args.c (sym c.is_sound.ensures ∙ not-true _ c.if-not-is_sound.true-raw))
 
-clock-sound-requires : tie.Need-clock-sound-requires
-clock-sound-requires c κs = lent_sound _ (sym c.before.before.is_sound.ensures ∙ not-false _ c.before.if1.false)
+clock-sound-requires : tie.Need-clock_sound-requires
+clock-sound-requires c κs = lent_sound _ (sym c.is_sound.ensures ∙ not-false _ c.if-not-is_sound.false-raw)
 
-returns-2 : tie.Need-returns-2
-returns-2 c = let passed : tie.Else1 = search in let tested : tie.After-is-sound = search in let entry : tie.Start = search in
-    let pass = sym tested.is_sound.ensures ∙ not-false _ passed.if1.left in
-    let answer = c.before.before.clock-sound.ensures in
+returns-2 : tie.Need-returns
+returns-2 c = let passed : tie.Else-not-is_sound = search in let tested : tie.After-is_sound = search in let entry : tie.Start = search in
+    let pass = sym tested.is_sound.ensures ∙ not-false _ passed.if-not-is_sound.false-raw in
+    let answer = c.clock_sound.ensures in
     lent_answer entry.args.w.now pass (λ b. clocked b entry.args.c) _ _ answer.0 answer.1
 
 pub clock_spec : {M : Type 1} → statement M

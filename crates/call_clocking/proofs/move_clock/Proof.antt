@@ -16,67 +16,67 @@ use borrow.Author.Rules.{rules}
 use Rattle.call_clocking.proofs.move_clock.Statement.{statement}
 use Rattle.call_clocking.proofs.move_clock.Tie as tie
 
-points-in-requires : tie.Need-points-in-requires
+points-in-requires : tie.Need-points_in-requires
 points-in-requires c κs = let entry : tie.Start = search in
-    let points = points_asked entry.args.w.now entry.pre.1.0 in
+    let points = points_asked entry.args.w.now entry.requires.1.0 in
     (search rules, points.0, points.1)
 
-add-start-rules : tie.Need-overflow-add-start-rules
-add-start-rules c = let entry : tie.Start = search in let A = entry.args in let P = entry.pre in let W = A.w.now in
+add-start-rules : tie.Need-overflow_add-c
+add-start-rules c = let entry : tie.Start = search in let A = entry.args in let P = entry.requires in let W = A.w.now in
     omega (arith, start_fits W P.0 P.1.0 A.settings P.1.1 A.c P.1.2 P.1.3)
 
-start-rules-requires : tie.Need-start-rules-requires
-start-rules-requires c κs = let entry : tie.Start = search in (search rules, jobs_sized entry.args.w.now entry.pre.1.0)
+start-rules-requires : tie.Need-start_rules-rules-requires
+start-rules-requires c κs = let entry : tie.Start = search in (search rules, jobs_sized entry.args.w.now entry.requires.1.0)
 
-try-rules-requires : tie.Need-try-rules-requires
+try-rules-requires : tie.Need-try_rules-requires
 try-rules-requires c κs =
-    let made = c.before in
-    let counted : tie.After-points-in = search in
+    let made = c in
+    let counted : tie.After-points_in = search in
     let entry : tie.Start = search in
     let A = entry.args in
-    let P = entry.pre in
+    let P = entry.requires in
     let W = A.w.now in
-    let points = counted.points-in.ensures in
+    let points = counted.points_in.ensures in
     let n = add-one _ ∙ ap suc points in
-    let r = start_words W P.0 P.1.0 A.settings P.1.1 A.c P.1.2 P.1.3 _ made.start-rules.ensures in (
+    let r = start_words W P.0 P.1.0 A.settings P.1.1 A.c P.1.2 P.1.3 _ made.start_rules-rules.ensures in (
       (length_lent W P.0, omega arith, omega (arith, points, (jobs_sized W P.1.0).points), closed_lent W P.1.0 P.0 _ n),
       (r.0, r.1 _ n),
     )
 
-returns : tie.Need-returns
-returns c = let tried : tie.After-try-rules = search in let made : tie.After-start-rules = search in let counted : tie.After-points-in = search in
-    let entry : tie.Start = search in let A = entry.args in let P = entry.pre in let W = A.w.now in
-    let no = not-true _ c.if1.true in
-    let n = add-one _ ∙ ap suc counted.points-in.ensures in
-    (clocked_words W P.0 P.1.0 A.settings P.1.1 A.c P.1.2 P.1.3 _ _ _ _ made.start-rules.ensures n
-    tried.try-rules.ensures.0).0
-    no (tried.try-rules.ensures.1 no)
+returns : tie.Need-returns-then-not-try_rules
+returns c = let tried : tie.After-try_rules = search in let made : tie.After-start_rules-rules = search in let counted : tie.After-points_in = search in
+    let entry : tie.Start = search in let A = entry.args in let P = entry.requires in let W = A.w.now in
+    let no = not-true _ c.if-not-try_rules.true-raw in
+    let n = add-one _ ∙ ap suc counted.points_in.ensures in
+    (clocked_words W P.0 P.1.0 A.settings P.1.1 A.c P.1.2 P.1.3 _ _ _ _ made.start_rules-rules.ensures n
+    tried.try_rules.ensures.0).0
+    no (tried.try_rules.ensures.1 no)
 
-write-clock-requires : tie.Need-write-clock-requires
-write-clock-requires c κs = let tried : tie.After-try-rules = search in let entry : tie.Start = search in let P = entry.pre in
+write-clock-requires : tie.Need-write_clock-requires
+write-clock-requires c κs = let tried : tie.After-try_rules = search in let entry : tie.Start = search in let P = entry.requires in
     let W = entry.args.w.now in
-    let t = tried.try-rules.last.0 in
+    let t = tried.try_rules.new.t in
     (omega arith, omega (arith, with_word_lem W P.0 t count_at (omega arith), (jobs_sized W P.1.0).count), marks_kept W P.1.0 P.0 t)
 
-tidy-lines-requires : tie.Need-tidy-lines-requires
-tidy-lines-requires c κs = let tried : tie.After-try-rules = search in let entry : tie.Start = search in let A = entry.args in let P = entry.pre in
+tidy-lines-requires : tie.Need-tidy_lines-requires
+tidy-lines-requires c κs = let tried : tie.After-try_rules = search in let entry : tie.Start = search in let A = entry.args in let P = entry.requires in
     let W = A.w.now in
-    let t = tried.try-rules.last.0 in
-    let put : tie.After-write-clock = search in
-    let ex = clocked_kept W P.1.0 P.0 t A.c (λ (js : List Job). js) _ put.write-clock.ensures in
-    (search rules, few_after W P.1.0 P.0 t A.c (jobs_from (jobs_of (held_jobs (word_in W)))) put.write-clock.last.0 ex)
+    let t = tried.try_rules.new.t in
+    let put : tie.After-write_clock = search in
+    let ex = clocked_kept W P.1.0 P.0 t A.c (λ (js : List Job). js) _ put.write_clock.ensures in
+    (search rules, few_after W P.1.0 P.0 t A.c (jobs_from (jobs_of (held_jobs (word_in W)))) put.write_clock.new.w ex)
 
-returns-2 : tie.Need-returns-2
-returns-2 c = let put : tie.After-write-clock = search in let tested : tie.Else1 = search in let tried : tie.After-try-rules = search in
-    let made : tie.After-start-rules = search in let counted : tie.After-points-in = search in let entry : tie.Start = search in
-    let A = entry.args in let P = entry.pre in let W = A.w.now in
-    let t = tried.try-rules.last.0 in
-    let ex = clocked_kept W P.1.0 P.0 t A.c (λ (js : List Job). js) _ put.write-clock.ensures in
-    let n = add-one _ ∙ ap suc counted.points-in.ensures in
-    (clocked_words W P.0 P.1.0 A.settings P.1.1 A.c P.1.2 P.1.3 _ _ _ _ made.start-rules.ensures n
-    tried.try-rules.ensures.0).1
-    put.write-clock.last.0 _ (not-false _ tested.if1.left) (omega arith) ex
-    c.before.before.tidy-lines.ensures
+returns-2 : tie.Need-returns
+returns-2 c = let put : tie.After-write_clock = search in let tested : tie.Else-not-try_rules = search in let tried : tie.After-try_rules = search in
+    let made : tie.After-start_rules-rules = search in let counted : tie.After-points_in = search in let entry : tie.Start = search in
+    let A = entry.args in let P = entry.requires in let W = A.w.now in
+    let t = tried.try_rules.new.t in
+    let ex = clocked_kept W P.1.0 P.0 t A.c (λ (js : List Job). js) _ put.write_clock.ensures in
+    let n = add-one _ ∙ ap suc counted.points_in.ensures in
+    (clocked_words W P.0 P.1.0 A.settings P.1.1 A.c P.1.2 P.1.3 _ _ _ _ made.start_rules-rules.ensures n
+    tried.try_rules.ensures.0).1
+    put.write_clock.new.w _ (not-false _ tested.if-not-try_rules.false-raw) (omega arith) ex
+    c.tidy_lines.ensures
 
 pub move_clock_spec : {M : Type 1} → statement M
 move_clock_spec =

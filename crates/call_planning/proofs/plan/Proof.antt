@@ -15,39 +15,39 @@ use borrow.Author.Rules.{rules}
 use Rattle.call_planning.proofs.plan.Statement.{statement}
 use Rattle.call_planning.proofs.plan.Tie as tie
 
-returns : tie.Need-returns
-returns c = let at-check-plant : tie.After-check-plant = search in let entry : tie.Start = search in
+returns : tie.Need-returns-in-Refused
+returns c = let at-check-plant : tie.After-check_plant-first = search in let entry : tie.Start = search in
     unanswered entry.args.w.now _ _ _
     (bad_plant (lent_board entry.args.w.now) entry.args.plant.now entry.args.offer.now _
-    (sym at-check-plant.check-plant.ensures ∙ c.before.first.given.1))
+    (sym at-check-plant.check_plant-first.ensures ∙ c.in-Refused.is))
 
-returns-2 : tie.Need-returns-2
+returns-2 : tie.Need-returns-then-not-is_sound
 returns-2 c =
-    let at-enum-told : tie.After-enum-told = search in let at-check-plant : tie.After-check-plant = search in let entry : tie.Start = search in
+    let at-enum-told : tie.In_default = search in let at-check-plant : tie.After-check_plant-first = search in let entry : tie.Start = search in
     unanswered entry.args.w.now _ _ (plain 6)
     (unsound (lent_board entry.args.w.now) entry.args.plant.now entry.args.offer.now
-    (sym at-check-plant.check-plant.ensures ∙ at-enum-told.enum_told.given.1)
-    (sym c.before.is_sound.ensures ∙ not-true _ c.if1.true))
+    (sym at-check-plant.check_plant-first.ensures ∙ at-enum-told.in_default.is)
+    (sym c.is_sound.ensures ∙ not-true _ c.if-not-is_sound.true-raw))
 
-read-trailer-requires : tie.Need-read-trailer-requires
-read-trailer-requires c κs = let at-enum-told : tie.After-enum-told = search in let at-check-plant : tie.After-check-plant = search in
-    (good _ (sym at-check-plant.check-plant.ensures ∙ at-enum-told.enum_told.given.1)).long
+read-trailer-requires : tie.Need-read_trailer-requires
+read-trailer-requires c κs = let at-enum-told : tie.In_default = search in let at-check-plant : tie.After-check_plant-first = search in
+    (good _ (sym at-check-plant.check_plant-first.ensures ∙ at-enum-told.in_default.is)).long
 
-plan-offer-requires : tie.Need-plan-offer-requires
+plan-offer-requires : tie.Need-plan_offer-requires
 plan-offer-requires c κs =
-    let at-enum-told : tie.After-enum-told = search in let tested : tie.After-is-sound = search in let plant : tie.After-check-plant = search in
-    let board = lent_sound _ (sym tested.is_sound.ensures ∙ not-false _ c.before.before.if1.false) in
-    (board.0, (board.1, (sym plant.check-plant.ensures ∙ at-enum-told.enum_told.given.1), c.read-trailer.ensures.0))
+    let at-enum-told : tie.In_default = search in let tested : tie.After-is_sound = search in let plant : tie.After-check_plant-first = search in
+    let board = lent_sound _ (sym tested.is_sound.ensures ∙ not-false _ c.if-not-is_sound.false-raw) in
+    (board.0, (board.1, (sym plant.check_plant-first.ensures ∙ at-enum-told.in_default.is), c.read_trailer.ensures.0))
 
-returns-3 : tie.Need-returns-3
+returns-3 : tie.Need-returns
 returns-3 c =
-    let at-plan-offer : tie.After-plan-offer = search in let at-if1 : tie.Else1 = search in let at-enum-told : tie.After-enum-told = search in
-    let entry : tie.Start = search in let tested : tie.After-is-sound = search in let plant : tie.After-check-plant = search in
+    let at-plan-offer : tie.After-plan_offer = search in let at-if1 : tie.Else-not-is_sound = search in let at-enum-told : tie.In_default = search in
+    let entry : tie.Start = search in let tested : tie.After-is_sound = search in let plant : tie.After-check_plant-first = search in
     let w = entry.args.w.now in
-    let good = sym plant.check-plant.ensures ∙ at-enum-told.enum_told.given.1 in
-    let pass = sym tested.is_sound.ensures ∙ not-false _ at-if1.if1.left in
+    let good = sym plant.check_plant-first.ensures ∙ at-enum-told.in_default.is in
+    let pass = sym tested.is_sound.ensures ∙ not-false _ at-if1.if-not-is_sound.false-raw in
     let heard-so = lent_answer w pass (λ b. heard b (reading_of (state_of b) entry.args.plant.now entry.args.offer.now)) _ _
-    at-plan-offer.plan-offer.ensures.0 at-plan-offer.plan-offer.ensures.1 in
+    at-plan-offer.plan_offer.ensures.0 at-plan-offer.plan_offer.ensures.1 in
     let is = on_reading (lent_board w) entry.args.plant.now entry.args.offer.now good pass in
     (heard-so.0 ∙ ap (λ (r : Ruled). r.ruling) is, heard-so.1 ∙ ap (words_after w) is)
 

@@ -8,36 +8,36 @@ use Rattle.call_report.proofs.Answers.{asked_other, asked_unsound, asked_short, 
 use Rattle.call_report.proofs.ask.Statement.{statement}
 use Rattle.call_report.proofs.ask.Tie as tie
 
-returns : tie.Need-returns
+returns : tie.Need-returns-then-w-ne-BOARD_WORDS
 returns c = let entry : tie.Start = search in
-    c.refused.ensures ∙ asked_other entry.args.w.now entry.args.room c.before.if1.true
+    c.refused.ensures ∙ asked_other entry.args.w.now entry.args.room c.if-w-ne-BOARD_WORDS.true
 
-returns-2 : tie.Need-returns-2
+returns-2 : tie.Need-returns-then-not-is_sound_in
 returns-2 c = let entry : tie.Start = search in
-    let test = c.before in
-    let whole : tie.Else1 = search in
-    let unsound = sym c.before.before.is-sound-in.ensures ∙ not-true _ test.if2.true in
-    c.refused2.ensures ∙ asked_unsound entry.args.w.now entry.args.room whole.if1.left unsound
+    let test = c in
+    let whole : tie.Else-w-ne-BOARD_WORDS = search in
+    let unsound = sym c.is_sound_in.ensures ∙ not-true _ test.if-not-is_sound_in.true-raw in
+    c.refused-then-not-is_sound_in.ensures ∙ asked_unsound entry.args.w.now entry.args.room whole.if-w-ne-BOARD_WORDS.false unsound
 
-points-in-requires : tie.Need-points-in-requires
+points-in-requires : tie.Need-points_in-stores-requires
 points-in-requires c κs = let entry : tie.Start = search in
     let b = board_in entry.args.w.now in
-    let sound = sym c.before.is-sound-in.ensures ∙ not-false _ c.if2.false in
+    let sound = sym c.is_sound_in.ensures ∙ not-false _ c.if-not-is_sound_in.false-raw in
     (search rules, (sound_sized b sound).count, sound_few b sound)
 
-returns-3 : tie.Need-returns-3
-returns-3 c = let at-is-sound-in : tie.After-is-sound-in = search in let entry : tie.Start = search in let counted : tie.After-points-in = search in
-    let test : tie.Else2 = search in let whole : tie.Else1 = search in let A = entry.args in
-    let sound = sym at-is-sound-in.is-sound-in.ensures ∙ not-false _ test.if2.left in
-    c.refused3.ensures ∙ asked_short A.w.now A.room whole.if1.left sound _ counted.points-in.ensures c.before.if3.true
+returns-3 : tie.Need-returns-then-room-stores
+returns-3 c = let at-is-sound-in : tie.After-is_sound_in = search in let entry : tie.Start = search in let counted : tie.After-points_in-stores = search in
+    let test : tie.Else-not-is_sound_in = search in let whole : tie.Else-w-ne-BOARD_WORDS = search in let A = entry.args in
+    let sound = sym at-is-sound-in.is_sound_in.ensures ∙ not-false _ test.if-not-is_sound_in.false-raw in
+    c.refused-then-room-stores.ensures ∙ asked_short A.w.now A.room whole.if-w-ne-BOARD_WORDS.false sound _ counted.points_in-stores.ensures c.if-room-stores.true
 
-returns-4 : tie.Need-returns-4
-returns-4 c = let at-is-sound-in : tie.After-is-sound-in = search in let entry : tie.Start = search in
-    let counted = c.before in
-    let test : tie.Else2 = search in
-    let whole : tie.Else1 = search in
-    let sound = sym at-is-sound-in.is-sound-in.ensures ∙ not-false _ test.if2.left in
-    asked_rows entry.args.w.now entry.args.room whole.if1.left sound _ counted.points-in.ensures c.if3.false
+returns-4 : tie.Need-returns
+returns-4 c = let at-is-sound-in : tie.After-is_sound_in = search in let entry : tie.Start = search in
+    let counted = c in
+    let test : tie.Else-not-is_sound_in = search in
+    let whole : tie.Else-w-ne-BOARD_WORDS = search in
+    let sound = sym at-is-sound-in.is_sound_in.ensures ∙ not-false _ test.if-not-is_sound_in.false-raw in
+    asked_rows entry.args.w.now entry.args.room whole.if-w-ne-BOARD_WORDS.false sound _ counted.points_in-stores.ensures c.if-room-stores.false
 
 pub ask_spec : {M : Type 1} → statement M
 ask_spec =

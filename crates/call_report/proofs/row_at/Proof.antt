@@ -7,10 +7,10 @@ use Rattle.call_report.proofs.row_at.Tie as tie
 
 returns : tie.Need-returns
 returns c =
-    let early = c.before in
+    let early = c in
     let entry : tie.Start = search in
     let A = entry.args in
-    row_lent A.w.now A.at.place A.at.point (A.k + 1) _ _ entry.pre.0 early.earliest.ensures c.latest.ensures
+    row_lent A.w.now A.at.place A.at.point (A.k + 1) _ _ entry.requires.0 early.earliest-early.ensures c.latest-late.ensures
 
 pub row_at_spec : {M : Type 1} → statement M
 row_at_spec =

@@ -14,16 +14,16 @@ use Rattle.call_retiring.proofs.Retired.{ends}
 use Rattle.call_retiring.proofs.is_over.Statement.{statement}
 use Rattle.call_retiring.proofs.is_over.Tie as tie
 
-are-over-requires : tie.Need-are-over-requires
-are-over-requires c κs = let entry : tie.Start = search in let A = entry.args in let P = entry.pre in let W = A.w.now in
+are-over-requires : tie.Need-are_over-requires
+are-over-requires c κs = let entry : tie.Start = search in let A = entry.args in let P = entry.requires in let W = A.w.now in
     let reach = subst (λ (l : List ℕ). InReach l (word_in W clock_at) 1 A.m) (sym (cells_lent W P.0)) P.1.0 in
     (reach, P.1.1, (search rules), P.1.2)
 
 returns : tie.Need-returns
-returns c = let read : tie.After-settings-in = search in let entry : tie.Start = search in let A = entry.args in let W = A.w.now in
-    c.are-over.ensures
+returns c = let read : tie.After-settings_in = search in let entry : tie.Start = search in let A = entry.args in let W = A.w.now in
+    c.are_over.ensures
     ∙ ap₂ (λ (l : List ℕ) (s : Settings). entails_all (table_of l) (ends s (1 + A.m - 1) (word_in W clock_at) A.m (lines_read (word_in W))))
-    (cells_lent W entry.pre.0) read.settings-in.ensures
+    (cells_lent W entry.requires.0) read.settings_in.ensures
 
 pub is_over_spec : {M : Type 1} → statement M
 is_over_spec =

@@ -11,18 +11,18 @@ use borrow.Author.Rules.{rules}
 use Rattle.call_retiring.proofs.retire_sound.Statement.{statement}
 use Rattle.call_retiring.proofs.retire_sound.Tie as tie
 
-returns : tie.Need-returns
+returns : tie.Need-returns-then-w-eq0
 returns c = let entry : tie.Start = search in
-    unanswered entry.args.w.now _ _ (plain 21) (none_there (board_in entry.args.w.now) entry.pre.1 c.if1.true)
+    unanswered entry.args.w.now _ _ (plain 21) (none_there (board_in entry.args.w.now) entry.requires.1 c.if-w-eq0.true)
 
-returns-2 : tie.Need-returns-2
+returns-2 : tie.Need-returns-then-not-oldest
 returns-2 c = let entry : tie.Start = search in
-    unsent_words entry.args.w.now entry.pre.0 entry.pre.1 (omega arith) _ c.before.before.job-at.ensures (not-true _ c.if2.true)
+    unsent_words entry.args.w.now entry.requires.0 entry.requires.1 (omega arith) _ c.job_at-oldest.ensures (not-true _ c.if-not-oldest.true)
 
-retire-sent-requires : tie.Need-retire-sent-requires
-retire-sent-requires c κs = let found : tie.After-job-at = search in let entry : tie.Start = search in
-    let marked = sym (ap (λ (j : Job). j.sent) found.job-at.ensures) ∙ not-false _ c.before.if2.false in
-    (entry.pre.0, (entry.pre.1, omega arith, marked))
+retire-sent-requires : tie.Need-retire_sent-requires
+retire-sent-requires c κs = let found : tie.After-job_at-oldest = search in let entry : tie.Start = search in
+    let marked = sym (ap (λ (j : Job). j.sent) found.job_at-oldest.ensures) ∙ not-false _ c.if-not-oldest.false in
+    (entry.requires.0, (entry.requires.1, omega arith, marked))
 
 pub retire_sound_spec : {M : Type 1} → statement M
 retire_sound_spec =

@@ -13,18 +13,18 @@ use Rattle.part_boardwords.proofs.Boards.{held_jobs_lem, held_job}
 use Rattle.call_sending.proofs.is_unsent.Statement.{statement}
 use Rattle.call_sending.proofs.is_unsent.Tie as tie
 
-returns : tie.Need-returns
+returns : tie.Need-returns-then-w-k
 returns c = let entry : tie.Start = search in
     let w = word_in entry.args.w.now in
     let held : length (jobs_of (held_jobs w)) ≡ w count_at = held_jobs_lem w (omega arith) in
     unsent_past (jobs_of (held_jobs w)) entry.args.k (omega (arith, held))
 
-returns-2 : tie.Need-returns-2
+returns-2 : tie.Need-returns
 returns-2 c = let entry : tie.Start = search in
     let w = word_in entry.args.w.now in
     let held : length (jobs_of (held_jobs w)) ≡ w count_at = held_jobs_lem w (omega arith) in
     let there = held_job w (omega arith) entry.args.k (omega arith) in
-    ap (λ (j : Job). not j.sent) (c.before.job-at.ensures ∙ sym there) ∙ unsent_at_lem (jobs_of (held_jobs w)) entry.args.k (omega (arith, held))
+    ap (λ (j : Job). not j.sent) (c.job_at-job.ensures ∙ sym there) ∙ unsent_at_lem (jobs_of (held_jobs w)) entry.args.k (omega (arith, held))
 
 pub is_unsent_spec : {M : Type 1} → statement M
 is_unsent_spec = tie.close (tie.spec (λ c. search rules) (λ c. search rules) returns (λ c κs. search rules) returns-2)

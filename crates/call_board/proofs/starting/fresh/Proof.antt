@@ -7,20 +7,20 @@ use Rattle.call_board.proofs.Started.{other_number, refused_words, accepted_word
 use Rattle.call_board.proofs.starting.fresh.Statement.{statement}
 use Rattle.call_board.proofs.starting.fresh.Tie as tie
 
-returns : tie.Need-returns
-returns c = let entry = c.before.before.args in other_number entry.s entry.w.now c.if1.true
+returns : tie.Need-returns-then-w-ne-BOARD_WORDS
+returns c = let entry = c.args in other_number entry.s entry.w.now c.if-w-ne-BOARD_WORDS.true
 
-returns-2 : tie.Need-returns-2
-returns-2 c = let entry : tie.Start = search in let cleared : tie.After-clear = search in let sized : tie.Else1 = search in
-    refused_words entry.args.s entry.args.w.now _ sized.if1.left cleared.clear.ensures (sym c.before.is-bad.ensures ∙ c.if2.true)
+returns-2 : tie.Need-returns-then-is_bad
+returns-2 c = let entry : tie.Start = search in let cleared : tie.After-clear = search in let sized : tie.Else-w-ne-BOARD_WORDS = search in
+    refused_words entry.args.s entry.args.w.now _ sized.if-w-ne-BOARD_WORDS.false cleared.clear.ensures (sym c.is_bad.ensures ∙ c.if-is_bad.true)
 
-slice-write-w-3 : tie.Need-slice-write-w-3
+slice-write-w-3 : tie.Need-bounds-w-1620
 slice-write-w-3 c = let entry : tie.Start = search in let cleared : tie.After-clear = search in
     omega (arith, stored_length entry.args.w.now _ entry.args.s cleared.clear.ensures)
 
-returns-3 : tie.Need-returns-3
-returns-3 c = let entry : tie.Start = search in let cleared : tie.After-clear = search in let sized : tie.Else1 = search in
-    accepted_words entry.args.s entry.args.w.now _ sized.if1.left cleared.clear.ensures (sym c.before.is-bad.ensures ∙ c.if2.false)
+returns-3 : tie.Need-returns
+returns-3 c = let entry : tie.Start = search in let cleared : tie.After-clear = search in let sized : tie.Else-w-ne-BOARD_WORDS = search in
+    accepted_words entry.args.s entry.args.w.now _ sized.if-w-ne-BOARD_WORDS.false cleared.clear.ensures (sym c.is_bad.ensures ∙ c.if-is_bad.false)
 
 pub fresh_spec : {M : Type 1} → statement M
 fresh_spec =

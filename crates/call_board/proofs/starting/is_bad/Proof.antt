@@ -8,7 +8,7 @@ use Rattle.call_board.proofs.starting.is_bad.Tie as tie
 
 returns : tie.Need-returns
 unfolding bad_settings
-returns c = ap not c.are-settings-sized.ensures
+returns c = ap not c.are_settings_sized.ensures
 
 pub is_bad_spec : {M : Type 1} → statement M
 is_bad_spec = tie.close (tie.spec (λ c κs. search rules) returns)

@@ -10,16 +10,16 @@ use Rattle.call_retiring.proofs.Ended.{last_late, last_over}
 use Rattle.call_retiring.proofs.ending.are_over.Statement.{statement}
 use Rattle.call_retiring.proofs.ending.are_over.Tie as tie
 
-add-if1-2 : tie.Need-overflow-add-if1-2
+add-if1-2 : tie.Need-overflow_add-t
 add-if1-2 c = let entry : tie.Start = search in let A = entry.args in
     let last = A.f + A.m - 1 in
-    omega (arith, origin_row A.t.now last, entry.pre.0.bounded last (omega arith))
+    omega (arith, origin_row A.t.now last, entry.requires.0.bounded last (omega arith))
 
-returns : tie.Need-returns
+returns : tie.Need-returns-then-clock-t
 returns c = let entry : tie.Start = search in
     last_late entry.args.t.now entry.args.clock (entry.args.f + entry.args.m - 1) (tray_gap entry.args.settings) _ (omega arith)
 
-returns-2 : tie.Need-returns-2
+returns-2 : tie.Need-returns
 returns-2 c = let entry : tie.Start = search in let A = entry.args in
     last_over A.t.now A.clock (A.f + A.m - 1) (tray_gap A.settings)
     (all_end_by A.settings A.clock A.f A.m (lines_of (lines_read (word_in A.w.now)))) c.lines_end.result c.lines_end.ensures

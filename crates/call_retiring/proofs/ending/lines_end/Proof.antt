@@ -10,38 +10,38 @@ use Rattle.call_retiring.proofs.Ended.{lines_end, lined_read, read_line_next, re
 use Rattle.call_retiring.proofs.ending.lines_end.Statement.{statement}
 use Rattle.call_retiring.proofs.ending.lines_end.Tie as tie
 
-abbrev invariant_loop : tie.invariant_loop
+abbrev invariant_loop : tie.invariant-loop-k
 invariant_loop t settings clock f m w ok₀ k₀ ok k = (k ≤ resources)
     × ((ok && lines_end t settings clock f m (drop k (lines_read (word_in w)))) ≡ lines_end t settings clock f m (lines_read (word_in w)))
 
-abbrev decreases_loop : tie.decreases_loop
+abbrev decreases_loop : tie.decreases-loop-k
 decreases_loop t settings clock f m w ok₀ k₀ ok k = resources - k
 
-loop-holds : tie.Need-loop-init invariant_loop decreases_loop
+loop-holds : tie.Need-loop-k-init invariant_loop decreases_loop
 loop-holds c = (omega arith, refl)
 
-line-ends-requires : tie.Need-line-ends-requires invariant_loop decreases_loop
+line-ends-requires : tie.Need-line_ends-ok-requires invariant_loop decreases_loop
 line-ends-requires c κs =
-    let turn : tie.At-loop invariant_loop decreases_loop = search in let entry : tie.Start invariant_loop decreases_loop = search in let start = c.line-start.ensures in
-    let line = lined_read (word_in entry.args.w.now) turn.loop.k _ (omega arith) start entry.pre.2 in
-    (entry.pre.0, omega (arith, start), line.0, line.1)
+    let turn : tie.At-loop-k invariant_loop decreases_loop = search in let entry : tie.Start invariant_loop decreases_loop = search in let start = c.line_start.ensures in
+    let line = lined_read (word_in entry.args.w.now) turn.loop-k.k _ (omega arith) start entry.requires.2 in
+    (entry.requires.0, omega (arith, start), line.0, line.1)
 
-loop-again : tie.Need-loop-preserved invariant_loop decreases_loop
+loop-again : tie.Need-loop-k-preserved invariant_loop decreases_loop
 loop-again c = let entry : tie.Start invariant_loop decreases_loop = search in
-    let start = c.before in
-    let turn : tie.At-loop invariant_loop decreases_loop = search in
+    let start = c in
+    let turn : tie.At-loop-k invariant_loop decreases_loop = search in
     let A = entry.args in
-    let L = turn.loop in (
+    let L = turn.loop-k in (
       omega arith,
-      read_line_next A.t.now A.settings A.clock A.f A.m (word_in A.w.now) L.k L.ok L.inv.1 _ _ (omega arith)
-          start.line-start.ensures c.line_ends.ensures,
+      read_line_next A.t.now A.settings A.clock A.f A.m (word_in A.w.now) L.k L.ok L.invariant.1 _ _ (omega arith)
+          start.line_start.ensures c.line_ends-ok.ensures,
     )
 
 returns : tie.Need-returns invariant_loop decreases_loop
 returns c = let entry : tie.Start invariant_loop decreases_loop = search in
-    let turn = c.before in
+    let turn = c in
     let A = entry.args in
-    let L = turn.loop in
+    let L = turn.loop-k in
     read_line_end A.t.now A.settings A.clock A.f A.m (word_in A.w.now) L.k L.ok L.invariant.1 (omega arith)
 
 pub lines_end_spec : {M : Type 1} → statement M
