@@ -1,17 +1,14 @@
-use Rattle.std.proofs.Common.{◌-◌, ◌≡◌, true, ◌+◌, ◌≤◌, ◌<◌, min, length, take, ℕ, ◌*◌}
-use Rattle.spec_plain.specs.Limits.{most_jobs, most_points}
-use Rattle.base_rulings.specs.declared.Ruling.TheVariants.{Refused}
-use Rattle.base_rulings.specs.declared.Cause.TheVariants.{Plain}
-use Rattle.part_gaps.specs.Cells.{table_of}
-use Rattle.part_boardwords.specs.Layout.{board_size}
-use Rattle.part_boardwords.specs.Words.{word_in, cells_read, board_in}
-use Rattle.part_sound.specs.Sound.{sound}
-use Rattle.call_report.specs.Rows.{row_of, rows_of, laid, reported_in, reported_into, asked, next_cursor}
+-- After k turns the first k rows are laid over the list, and the cursor stands at row k.
+use Rattle.std.proofs.Common.{◌≡◌, ◌≤◌, ◌-◌, length, take}
+use Rattle.part_boardwords.specs.Words.{word_in, board_in}
+use Rattle.call_report.specs.Rows.{rows_of, laid, asked, cursor}
 use Rattle.call_report.proofs.report.Given as goal
 
 abbrev pub invariant-loop-k : goal.invariant-loop-k
-invariant-loop-k l = ?
+invariant-loop-k l =
+    (l.k ≤ (asked l.w (length l.initial.rows)).stores)
+    × (l.rows ≡ laid (take l.k (rows_of (board_in l.w))) l.initial.rows)
+    × (l.at ≡ cursor (word_in l.w) l.k)
 
--- proposed from the loop's first test
 abbrev pub decreases-loop-k : goal.decreases-loop-k
 decreases-loop-k l = l.answer.stores - l.k

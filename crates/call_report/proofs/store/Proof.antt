@@ -63,7 +63,7 @@ loop-again c = let at-loop : tie.At-loop-k invariant_loop decreases_loop = searc
     (L.k + 1)) at ∙ cursor_row words entry.requires.1 L.k less in
     let size : length entry.args.rows ≡ most_points = search (rules, length_mapped) in (
       omega arith,
-      laid_turn rows entry.args.rows L.next-rows L.k _ L.invariant.1 row less (omega (arith, size, (cursor_fits words entry.requires.1 L.k less).0)),
+      laid_turn rows entry.args.rows L.next_rows L.k _ L.invariant.1 row less (omega (arith, size, (cursor_fits words entry.requires.1 L.k less).0)),
       c.next-at.ensures ∙ ap (next_cursor words) at ∙ ap (cursor words) (sym (add-one L.k)),
       simp length-set L.invariant.3,
     )
