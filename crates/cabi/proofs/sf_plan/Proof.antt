@@ -7,11 +7,11 @@ use Rattle.cabi.proofs.sf_plan.Statement.{statement}
 use Rattle.cabi.proofs.sf_plan.Tie as tie
 
 returns : tie.Need-returns
-returns c = let told : tie.After-write-cause = search in let valued : tie.After-value = search in
-    let planned : tie.After-plan = search in let entry : tie.Start = search in
-    let answer = planned.plan.ensures in
+returns c = let told : tie.After-write_cause = search in let valued : tie.After-value = search in
+    let planned : tie.After-plan-ruling = search in let entry : tie.Start = search in
+    let answer = planned.plan-ruling.ensures in
     let value = valued.value.ensures ∙ ap value_of answer.0 in
-    (c.number.ensures ∙ ap number_of answer.0, (answer.1, told.write-cause.ensures ∙ ap (set entry.args.cause.now 0) value))
+    (c.number.ensures ∙ ap number_of answer.0, (answer.1, told.write_cause.ensures ∙ ap (set entry.args.cause.now 0) value))
 
 pub sf_plan_spec : {M : Type 1} → statement M
 sf_plan_spec =

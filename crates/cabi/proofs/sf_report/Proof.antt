@@ -129,10 +129,10 @@ module _ {M : Type 1} {𝓤 : Ura M} (𝓛 : Logic 𝓤) (mem : Memory → SProp
   abbrev to_number : Ruling → Val → (Numbers 𝓛 mem run).Ghost
   to_number r u = ((tt, tt, tt, (r, tt), (u ∷ [], tt)), tt)
 
-  goes_report : ent 𝓤 (⋆ 𝓛 (tokens ∷ ‵ Both ∷ [])) ((Reports 𝓛 mem run).pre to_report)
+  goes_report : ent 𝓤 (⋆ 𝓛 (tokens ∷ ‵ Both ∷ [])) ((Reports 𝓛 mem run).requires to_report)
   goes_report = qed 𝓛 (tokens ∷ ‵ Both ∷ []) ∵ join ! $ frame ! $ done !
 
-  goes_number : (r : Ruling) (u : Val) → Is E.the_row r (u ∷ []) → ent 𝓤 (emp 𝓤) ((Numbers 𝓛 mem run).pre (to_number r u))
+  goes_number : (r : Ruling) (u : Val) → Is E.the_row r (u ∷ []) → ent 𝓤 (emp 𝓤) ((Numbers 𝓛 mem run).requires (to_number r u))
   goes_number r u is =
       qed 𝓛 [] ∵ nothing ! $ owned ! E.the_row (Is E.the_row) ((EL.makes E.the_type E'.the_plain) 𝓛) r _ is $ fjoin ! $
       nothing ! $ join ! $ nothing ! $ move ! (1 ∷ 0 ∷ []) $ done !
@@ -165,7 +165,7 @@ module _ {M : Type 1} {𝓤 : Ura M} (𝓛 : Logic 𝓤) (mem : Memory → SProp
         (from ! (stop !)) (init ! 0 refl (tt, (tt, (record { fits = room.0 }, tt)))) $
         -- what the words own is had twice, and one of the two is kept for the exit
         move ! (13 ∷ []) $ fsplit ! $ use1 𝓛 (‵ Own ⊛ ‵ Own) ((shr_slice_copy 𝓛 (named 0) κ u32).twice w (v ∷ [])) $ split ! $
-        move ! (0 ∷ 2 ∷ []) $ fjoin ! $ move ! (14 ∷ 0 ∷ []) $ use2 𝓛 (raw ((Reports 𝓛 mem run).pre to_report)) goes_report $
+        move ! (0 ∷ 2 ∷ []) $ fjoin ! $ move ! (14 ∷ 0 ∷ []) $ use2 𝓛 (raw ((Reports 𝓛 mem run).requires to_report)) goes_report $
         -- [what `report` asks; what the words own; _5; …; _1; …; room for _0; …]: `report`, whose result lands in _3
         calls_at ! fm (Reports 𝓛 mem run) known-report to_report (and_then ! (load ! (from ! (stop !)) (look ! 10 refl))
         (and_then ! (load ! (from ! (stop !)) (look ! 2 refl)) (no_more !))) (λ u.
@@ -179,7 +179,7 @@ module _ {M : Type 1} {𝓤 : Ura M} (𝓛 : Logic 𝓤) (mem : Memory → SProp
         move ! (2 ∷ []) $ split ! $ move ! (1 ∷ []) $ peeks ! E.the_row (Is E.the_row) (shows 𝓛 E.the_row) r (u ∷ []) (λ is.
         land ! (from ! (stop !)) (init ! 9 refl ((EL.lawful E.the_type E'.the_laws 𝓛 tt).typed r _ is).0) $ drop ! $
         -- [the tokens; the last list; true; what the words own; _5; …]: `number`, whose result lands in _0
-        use0 𝓛 (raw ((Numbers 𝓛 mem run).pre (to_number r u))) (goes_number r u is) $
+        use0 𝓛 (raw ((Numbers 𝓛 mem run).requires (to_number r u))) (goes_number r u is) $
         calls_at ! fm (Numbers 𝓛 mem run) known-number (to_number r u) (and_then ! (load ! (from ! (stop !)) (look ! 9 refl)) (no_more !)) (λ u'.
         use1 𝓛 (later (some (λ (m : ℕ). (‵ ftrue ⊛ ‵ (u32.own_val m (u'
         ∷ []))) ⊛ raw (ensured 𝓛 number.ended (number.clauses 𝓛 mem run) tt (r, tt) tt m)))) (id⊢ 𝓤 _) $ await ! tt $ pick ! (λ m.

@@ -7,7 +7,7 @@ use borrow.Author.Rules.{rules}
 use Rattle.cabi.proofs.write_length.Statement.{statement}
 use Rattle.cabi.proofs.write_length.Tie as tie
 
-returns-2 : tie.Need-returns-2
+returns-2 : tie.Need-returns-else-written-gt1
 returns-2 c = let entry : tie.Start = search in let A = entry.args in sym (set_out A.written.now 1 A.n (omega arith))
 
 pub write_length_spec : {M : Type 1} → statement M

@@ -16,45 +16,45 @@ use Rattle.log_tables.proofs.Witnesses.{first_uncounted, second_uncounted, all_c
 use Rattle.log_tables.proofs.showing.count_differences.Statement.{statement}
 use Rattle.log_tables.proofs.showing.count_differences.Tie as tie
 
-returns : tie.Need-returns
-returns c = first_uncounted _ _ (breaks c.before.is_sound.ensures c.if1.true)
+returns : tie.Need-returns-then-not-is_sound
+returns c = first_uncounted _ _ (breaks c.is_sound.ensures c.if-not-is_sound.true-raw)
 
-returns-2 : tie.Need-returns-2
+returns-2 : tie.Need-returns-then-not-is_sound-2
 returns-2 c =
     let first = c.before.before in
-    second_uncounted _ _ (holds first.before.is_sound.ensures first.if1.false) (breaks c.before.is-sound2.ensures c.if2.true)
+    second_uncounted _ _ (holds first.is_sound.ensures first.if-not-is_sound.false-raw) (breaks c.is_sound-2.ensures c.if-not-is_sound-2.true-raw)
 
 -- past the two tests: the words of each board, that it is sound, and that they are as many as a board has
-abbrev entry_of : tie.Else2 → tie.Start
+abbrev entry_of : tie.Else-not-is_sound-2 → tie.Start
 entry_of c = search
 
-abbrev words_a : tie.Else2 → List ℕ
+abbrev words_a : tie.Else-not-is_sound-2 → List ℕ
 words_a c = (entry_of c).args.a.now
 
-abbrev words_b : tie.Else2 → List ℕ
+abbrev words_b : tie.Else-not-is_sound-2 → List ℕ
 words_b c = (entry_of c).args.b.now
 
-sound_a : (c : tie.Else2) → sound (lent_board (words_a c)) ≡ true
-sound_a c = let first = c.before.before in holds first.before.is_sound.ensures first.if1.false
+sound_a : (c : tie.Else-not-is_sound-2) → sound (lent_board (words_a c)) ≡ true
+sound_a c = let first = c.before.before in holds first.is_sound.ensures first.if-not-is_sound.false-raw
 
-sound_b : (c : tie.Else2) → sound (lent_board (words_b c)) ≡ true
-sound_b c = holds c.before.is-sound2.ensures c.if2.false
+sound_b : (c : tie.Else-not-is_sound-2) → sound (lent_board (words_b c)) ≡ true
+sound_b c = holds c.is_sound-2.ensures c.if-not-is_sound-2.false-raw
 
-long_a : (c : tie.Else2) → length (words_a c) ≡ board_size
+long_a : (c : tie.Else-not-is_sound-2) → length (words_a c) ≡ board_size
 long_a c = (lent_sound (words_a c) (sound_a c)).0
 
-long_b : (c : tie.Else2) → length (words_b c) ≡ board_size
+long_b : (c : tie.Else-not-is_sound-2) → length (words_b c) ≡ board_size
 long_b c = (lent_sound (words_b c) (sound_b c)).0
 
-count-cells-requires : tie.Need-count-cells-requires
+count-cells-requires : tie.Need-count_cells-requires
 count-cells-requires c κs =
     let tested = c.before.before in
     (length_lent (words_a tested) (long_a tested), length_lent (words_b tested) (long_b tested))
 
-returns-3 : tie.Need-returns-3
+returns-3 : tie.Need-returns
 returns-3 c =
     let tested = c.before.before.before in
-    c.count-cells.ensures ∙ all_counted (words_a tested) (words_b tested) (sound_a tested) (sound_b tested)
+    c.count_cells.ensures ∙ all_counted (words_a tested) (words_b tested) (sound_a tested) (sound_b tested)
 
 pub count_differences_spec : {M : Type 1} → statement M
 count_differences_spec =
