@@ -6,7 +6,7 @@
 --   no_fact, zero_none     a mask is 0 exactly when it has no fact
 --   lowest_has, _least     lowest is a fact of the mask, and no lower one is
 --   join_lt, strike_lt     the masks stay within 32 bits
-use Prim.Native.Nat.{ℕ, zero, suc, ◌-◌, ◌/◌, ◌%◌, ◌^◌, ◌<◌, min, max}
+use Prim.Native.Nat.{ℕ, zero, suc, ◌/◌, ◌%◌, ◌^◌, ◌<◌, min, max}
 use mathlib.Core.Path.{◌≡◌, refl, sym, ap, ap₂, ◌∙◌, subst}
 use mathlib.Core.Bool.{Bool, true, false, false≢true, not, ◌&&◌, ◌||◌}
 use native.Mathlib.Omega.{arith}

@@ -6,7 +6,7 @@
 --   with_word_lem       a word of the frame stays
 --   written         the frame of a board written before its table: the words of the board
 --   unwritten       the table as it was
-use Prim.Native.Nat.{ℕ, ◌+◌, ◌-◌, ◌<◌}
+use Prim.Native.Nat.{ℕ, ◌-◌, ◌<◌}
 use mathlib.Core.Path.{◌≡◌, sym, ◌∙◌, ap}
 use mathlib.Core.List.{List, [], ◌++◌, append-nil}
 use native.Mathlib.Omega.{arith}

@@ -3,7 +3,7 @@
 --   known_in, here, ends_within, next_at   the step that a reader stands at, and where the next one starts
 --   known_twice, goal_twice, consistent   refusal 10, and that it is not;  worked_back: 11 to 13
 --   plant_refused, offer_refused, on_to_consistency, facts_refused, on_to_chain   the order of the whole check
-use Prim.Native.Nat.{ℕ, ◌+◌, ◌-◌, ◌*◌, ◌≤◌, ◌<◌}
+use Prim.Native.Nat.{ℕ, ◌+◌, ◌*◌, ◌≤◌, ◌<◌}
 use native.Mathlib.Numerals.{add-one}
 use mathlib.Core.Path.{◌≡◌, sym, ap, ap₂, subst, ◌∙◌}
 use mathlib.Core.List.{List}

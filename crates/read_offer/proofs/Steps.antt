@@ -4,7 +4,7 @@
 --   first_start, ruling_is, next_start   where the first step starts; one step more
 --   steps_refused, steps_end, left-over        the ruling once the steps are read
 --   Read, read_of   what holds of an offer that passes 7 to 9
-use Prim.Native.Nat.{ℕ, ◌+◌, ◌-◌, ◌*◌, ◌≤◌, ◌<◌}
+use Prim.Native.Nat.{ℕ, ◌+◌, ◌*◌, ◌≤◌, ◌<◌}
 use native.Mathlib.Numerals.{add-one}
 use mathlib.Core.Path.{◌≡◌, refl, sym, ap, ◌∙◌}
 use mathlib.Core.List.{List}

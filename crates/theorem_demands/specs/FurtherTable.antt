@@ -12,7 +12,7 @@
 --   DraftCase           a state, an offer on it, and what the plain machine says of it before timetables are looked at;  Drafts: it does
 --   draft_table          the limits of 14 to 16, on states that a run would take too long to reach
 -- Point 0 is the origin; where the first job is J, its points are 1, 2, 3, and the second job's start is 4.
-use Rattle.std.specs.Prelude.{◌≡◌, List, [], ◌∷◌, ◌++◌, map, ℕ, zero, suc, ◌+◌, length, take, drop}
+use Rattle.std.specs.Prelude.{◌≡◌, List, [], ◌∷◌, ◌++◌, map, ℕ, zero, suc, ◌+◌, take, drop}
 use Rattle.base_rulings.specs.declared.Ruling.{Ruling}
 use Rattle.base_rulings.specs.declared.Ruling.TheVariants.{Accepted, Refused}
 use Rattle.base_rulings.specs.Answer.{refuse, refused}

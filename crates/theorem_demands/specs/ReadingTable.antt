@@ -7,7 +7,7 @@
 --                       checked: where the two are alike;  apart: where they are not;  offer_table: its cases
 --   SpelledCase         a plant file, an offer's bytes, and the offer that they spell;  spelled_table: its cases
 --   AllPlants, AllParts, AllOffers, AllSpelled   each of a list of cases is so
-use Rattle.std.specs.Prelude.{◌≡◌, List, [], ◌∷◌, ◌++◌, ℕ, ◌+◌, length, take, drop, set}
+use Rattle.std.specs.Prelude.{◌≡◌, List, [], ◌∷◌, ◌++◌, ℕ, length, take, drop, set}
 use Rattle.base_rulings.specs.declared.Ruling.{Ruling}
 use Rattle.base_rulings.specs.declared.Ruling.TheVariants.{Accepted, Refused}
 use Rattle.base_rulings.specs.Answer.{refuse, refused}

@@ -1,5 +1,4 @@
 -- `write_length` meets its contract: a store past the end of a list stores nothing.
-use Prim.Native.Nat.{◌-◌}
 use mathlib.Core.Path.{sym}
 use native.Mathlib.Omega.{arith}
 use lib.Seq.{set_out}

@@ -1,11 +1,10 @@
 -- `report` meets its contract. It has no branch: `ask` rules and says how many rows are stored, none where it refuses. After k turns the list is the one
 -- passed with the first k rows laid over its front, and the cursor stands at row k.
-use Rattle.std.proofs.Common.{◌≡◌, ℕ, ◌+◌, ◌<◌, List, length, take, get_or, sym, ◌∙◌, ap, add-one, arith}
+use Rattle.std.proofs.Common.{◌≡◌, ℕ, ◌+◌, ◌<◌, length, take, sym, ◌∙◌, ap, add-one, arith}
 use Rattle.part_gaps.specs.Cells.{table_of}
 use Rattle.part_boardwords.specs.Words.{word_in, cells_read, board_in}
 use Rattle.call_report.specs.declared.Asked.{Asked}
 use Rattle.call_report.specs.declared.Cursor.{Cursor}
-use Rattle.call_report.specs.declared.Row.{Row}
 use Rattle.call_report.specs.Rows.{row_of, rows_of, laid, asked, next_cursor, cursor}
 use Rattle.call_report.proofs.Laid.{laid_none, laid_turn}
 use Rattle.call_report.proofs.Answers.{Whole, whole, storing, stores_all, stores_fit, asked_is}
@@ -58,8 +57,8 @@ loop-k-preserved c =
     let rows = rows_of (board_in c.args.w.now) in
     let at = L.invariant.2 in
     let row =
-        c.row_at.ensures ∙ ap (λ (a : Cursor). row_of (table_of (cells_read words)) a.place a.point (L.k + 1)) at
-        ∙ cursor_row words (stored i).is L.k (in_rows i) in (
+    c.row_at.ensures ∙ ap (λ (a : Cursor). row_of (table_of (cells_read words)) a.place a.point (L.k + 1)) at
+    ∙ cursor_row words (stored i).is L.k (in_rows i) in (
       omega (arith, less i),
       laid_turn rows c.args.rows.now L.rows L.k _ L.invariant.1 row (in_rows i)
           (omega (arith, less i, (stores_fit c.args.w.now (length c.args.rows.now)).0)),
@@ -72,8 +71,7 @@ returns c =
     let is = asked_is A.w.now A.rows.now in
     let answer = c.ask-answer.ensures in
     let stores = ap (λ (a : Asked). a.stores) answer in
-    let end : c.loop-k.k ≡ (asked A.w.now (length A.rows.now)).stores = omega (arith, stores) in
-    (
+    let end : c.loop-k.k ≡ (asked A.w.now (length A.rows.now)).stores = omega (arith, stores) in (
       ap (λ (a : Asked). a.ruling) answer ∙ is.0,
       c.loop-k.invariant.1 ∙ ap (λ (k : ℕ). laid (take k (rows_of (board_in A.w.now))) A.rows.now) end ∙ is.1,
     )

@@ -1,6 +1,5 @@
 -- `sf_fact_check` meets its contract: the number of what `rule_facts` answers.
 use Rattle.base_rulings.specs.Answer.{number_of}
-use Prim.Native.Nat.{◌-◌}
 use mathlib.Core.Path.{◌∙◌, ap}
 use borrow.Author.Rules.{rules}
 use Rattle.factcheck.proofs.sf_fact_check.Statement.{statement}

@@ -1,6 +1,5 @@
 -- `allocation_at` meets its contract, word by word.
 use Rattle.part_offered.proofs.StepLaws.{allocation_is}
-use Prim.Native.Nat.{◌-◌}
 use borrow.Author.Rules.{rules}
 use Rattle.part_offered.proofs.allocation_at.Statement.{statement}
 use Rattle.part_offered.proofs.allocation_at.Tie as tie

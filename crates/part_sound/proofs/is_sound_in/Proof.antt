@@ -1,5 +1,4 @@
 -- `sound::is_sound_in` meets its contract: the marks, and then the clauses.
-use Prim.Native.Nat.{◌-◌}
 use mathlib.Core.Path.{sym, ◌∙◌, ap}
 use borrow.Author.Rules.{rules}
 use Rattle.part_boardwords.specs.Words.{word_in}

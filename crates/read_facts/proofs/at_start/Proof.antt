@@ -1,7 +1,6 @@
 -- `at_start` meets its contract: nothing lacks, or the lowest fact that does.
 use borrow.Author.Tests.{eq-eqb, ne_eqb}
 use Rattle.read_facts.specs.Regression.{at_start}
-use Prim.Native.Nat.{◌-◌}
 use borrow.Author.Rules.{rules}
 use Rattle.read_facts.proofs.at_start.Statement.{statement}
 use Rattle.read_facts.proofs.at_start.Tie as tie

@@ -1,6 +1,5 @@
 -- `back_over` meets its contract: 11, 12, or what must hold before the step.
 use Rattle.read_facts.specs.Regression.{back_over}
-use Prim.Native.Nat.{◌-◌}
 use borrow.Author.Rules.{rules}
 use Rattle.read_facts.proofs.back_over.Statement.{statement}
 use Rattle.read_facts.proofs.back_over.Tie as tie

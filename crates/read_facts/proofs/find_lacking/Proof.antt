@@ -1,6 +1,5 @@
 -- `find_lacking` meets its contract, mask by mask.
 use Rattle.read_facts.specs.Regression.{lacking}
-use Prim.Native.Nat.{◌-◌}
 use borrow.Author.Rules.{rules}
 use Rattle.read_facts.proofs.find_lacking.Statement.{statement}
 use Rattle.read_facts.proofs.find_lacking.Tie as tie

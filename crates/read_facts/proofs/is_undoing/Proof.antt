@@ -1,6 +1,5 @@
 -- `is_undoing` meets its contract: facts needed true, then facts needed false.
 use Rattle.read_facts.specs.Regression.{undoes}
-use Prim.Native.Nat.{◌-◌}
 use borrow.Author.Rules.{rules}
 use Rattle.read_facts.proofs.is_undoing.Statement.{statement}
 use Rattle.read_facts.proofs.is_undoing.Tie as tie

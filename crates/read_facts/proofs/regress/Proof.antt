@@ -1,6 +1,5 @@
 -- `regress` meets its contract, mask by mask.
 use Rattle.read_facts.specs.Regression.{regressed}
-use Prim.Native.Nat.{◌-◌}
 use borrow.Author.Rules.{rules}
 use Rattle.read_facts.proofs.regress.Statement.{statement}
 use Rattle.read_facts.proofs.regress.Tie as tie

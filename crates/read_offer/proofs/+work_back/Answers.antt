@@ -1,6 +1,6 @@
 -- `work_back` meets its contract, by recursion on the steps that are left. The last of them is gone back over: a clash is the answer
 -- (`back_clash`), or what must hold before it has to hold after the steps that are left then (`back_on`).
-use Rattle.std.proofs.Common.{◌∙◌, arith}
+use Rattle.std.proofs.Common.{◌∙◌}
 use Rattle.read_offer.proofs.ChainMasks.{back_none, back_clash, back_on}
 use Rattle.read_offer.proofs.+work_back.Goals as goal
 

@@ -1,6 +1,5 @@
 -- `action_at` meets its contract, mask by mask.
 use Rattle.read_offer.specs.ChainMasks.{held_action}
-use Prim.Native.Nat.{◌-◌}
 use mathlib.Core.Path.{refl}
 use borrow.Author.Rules.{rules}
 use Rattle.read_offer.proofs.action_at.Statement.{statement}

@@ -1,6 +1,5 @@
 -- `read_goal` meets its contract.
 use Rattle.read_offer.specs.Offer.{goal_of}
-use Prim.Native.Nat.{◌-◌}
 use borrow.Author.Rules.{rules}
 use Rattle.read_offer.proofs.read_goal.Statement.{statement}
 use Rattle.read_offer.proofs.read_goal.Tie as tie

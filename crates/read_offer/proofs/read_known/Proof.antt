@@ -1,6 +1,5 @@
 -- `read_known` meets its contract.
 use Rattle.read_offer.specs.Offer.{known_of}
-use Prim.Native.Nat.{◌-◌}
 use borrow.Author.Rules.{rules}
 use Rattle.read_offer.proofs.read_known.Statement.{statement}
 use Rattle.read_offer.proofs.read_known.Tie as tie

@@ -1,7 +1,6 @@
 -- `read_offer` meets its contract: 7 for each of its reasons, or what the steps come to.
 use borrow.Author.Tests.{lt-ltb, le-ltb}
 use Rattle.read_offer.specs.Offer.{offer_ruling}
-use Prim.Native.Nat.{◌-◌}
 use borrow.Author.Rules.{rules}
 use Rattle.read_offer.proofs.read_offer.Statement.{statement}
 use Rattle.read_offer.proofs.read_offer.Tie as tie

@@ -1,6 +1,5 @@
 -- `read_step` meets its contract: 8 for each of its three reasons, or where the step ends.
 use Rattle.read_offer.proofs.Steps.{too_short, no_action_lem, cut_off, step_ends}
-use Prim.Native.Nat.{◌-◌}
 use native.Mathlib.Omega.{arith}
 use borrow.Author.Rules.{rules}
 use Rattle.read_offer.proofs.read_step.Statement.{statement}

@@ -1,6 +1,5 @@
 -- `allocation_count` meets its contract: a good record has at most 4 (`count_is`).
 use Rattle.read_plant.proofs.Good.{good, count_is}
-use Prim.Native.Nat.{◌-◌}
 use borrow.Author.Rules.{rules}
 use Rattle.read_plant.proofs.allocation_count.Statement.{statement}
 use Rattle.read_plant.proofs.allocation_count.Tie as tie

@@ -1,6 +1,5 @@
 -- `allocations` meets its contract: a bad file and an action that it lacks have no part; a good one has it within the file.
 use Rattle.read_plant.proofs.Good.{good, part_none, part_lacks, part_is}
-use Prim.Native.Nat.{◌-◌}
 use mathlib.Core.Path.{sym, ◌∙◌}
 use borrow.Author.Rules.{rules}
 use Rattle.read_plant.proofs.allocations.Statement.{statement}

@@ -2,7 +2,6 @@
 use borrow.Author.Tests.{lt-ltb, not-true, not-false}
 use Rattle.read_plant.specs.Plant.{plant_ruling}
 use Rattle.read_plant.proofs.Good.{unmarked, bad_layout_lem, on_to_records, layout_right}
-use Prim.Native.Nat.{◌-◌}
 use mathlib.Core.Path.{sym, ◌∙◌}
 use borrow.Author.Rules.{rules}
 use Rattle.read_plant.proofs.check_plant.Statement.{statement}

@@ -1,7 +1,6 @@
 -- `is_bad_layout` meets its contract: the count, then the length.
 use borrow.Author.Tests.{lt-ltb, le-ltb}
 use Rattle.read_plant.specs.Plant.{bad_layout}
-use Prim.Native.Nat.{◌-◌}
 use borrow.Author.Rules.{rules}
 use Rattle.read_plant.proofs.is_bad_layout.Statement.{statement}
 use Rattle.read_plant.proofs.is_bad_layout.Tie as tie

@@ -2,7 +2,6 @@
 use Rattle.base_rulings.proofs.RulingLaws.{last_of_and}
 use borrow.Author.Tests.{eq-eqb, ne_eqb}
 use Rattle.read_plant.specs.Plant.{is_mark}
-use Prim.Native.Nat.{◌-◌}
 use borrow.Author.Rules.{rules}
 use Rattle.read_plant.proofs.is_marked.Statement.{statement}
 use Rattle.read_plant.proofs.is_marked.Tie as tie

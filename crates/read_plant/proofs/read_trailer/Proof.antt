@@ -1,6 +1,5 @@
 -- `read_trailer` meets its contract. An index start read from four bytes is below 2 ^ 32.
 use Rattle.read_plant.specs.Plant.{trailer_of}
-use Prim.Native.Nat.{◌-◌}
 use borrow.Author.Rules.{rules}
 use Rattle.read_plant.proofs.read_trailer.Statement.{statement}
 use Rattle.read_plant.proofs.read_trailer.Tie as tie

@@ -1,6 +1,5 @@
 -- `start_of` meets its contract: in a good file the index entry says where the record starts (`start_is`).
 use Rattle.read_plant.proofs.Good.{good, entry_within, start_is, record_within}
-use Prim.Native.Nat.{◌-◌}
 use mathlib.Core.Path.{◌∙◌}
 use native.Mathlib.Omega.{arith}
 use borrow.Author.Rules.{rules}

@@ -1,5 +1,4 @@
 -- `fresh` meets its contract: another number of words, settings out of range, or the words of a fresh board.
-use Prim.Native.Nat.{◌-◌}
 use mathlib.Core.Path.{sym, ◌∙◌}
 use native.Mathlib.Omega.{arith}
 use borrow.Author.Rules.{rules}

@@ -1,5 +1,4 @@
 -- `write_job` meets its contract: three words, and the due time behind them.
-use Prim.Native.Nat.{◌-◌}
 use borrow.Author.Rules.{rules}
 use Rattle.part_boardwords.proofs.Overwritten.{overwritten_fourth}
 use Rattle.part_boardwords.proofs.writing.write_job.Statement.{statement}

@@ -31,12 +31,12 @@ loop-j-preserved c =
     let L = c.loop-j in
     let is = ap (λ (q : Allocation). q.resource) c.read_allocation-allocation.ensures in
     elim c.if-allocation-resource.branch [
-      then-allocation-resource v ↦ (
+      | then-allocation-resource v ↦ (
         omega arith,
         omega arith,
         λ x. omega (arith, L.invariant.2 x, then_long x A.w.now A.allocations.now L.j A.resource (sym is ∙ v.if-allocation-resource.true) p.3),
       )
-    | else-allocation-resource v ↦ (
+      | else-allocation-resource v ↦ (
         omega arith,
         omega arith,
         λ x. omega (arith, L.invariant.2 x, ap length (then_other x A.w.now A.allocations.now L.j A.resource (λ e. v.if-allocation-resource.false (is ∙ e)))),

@@ -1,10 +1,9 @@
 -- `due_rule` meets its contract: no due time, or the rule of one.
 use Rattle.part_lines.specs.ArrayLists.{maybe_from}
 use Rattle.part_lines.proofs.RuleLaws.{due_none, due_some}
-use mathlib.Core.List.{List, [], ◌∷◌}
+use mathlib.Core.List.{[], ◌∷◌}
 use Rattle.spec_plain.specs.declared.Rule.{Rule}
 use mathlib.Core.Path.{◌∙◌, ap}
-use native.Mathlib.Omega.{arith}
 use borrow.Author.Rules.{rules}
 use Rattle.part_lines.proofs.rulelist.due_rule.Statement.{statement}
 use Rattle.part_lines.proofs.rulelist.due_rule.Tie as tie

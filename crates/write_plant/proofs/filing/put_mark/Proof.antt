@@ -1,5 +1,4 @@
 -- `put_mark` meets its contract: four bytes stored one by one.
-use Prim.Native.Nat.{◌-◌}
 use native.Mathlib.Omega.{arith}
 use lib.ListN.{length-set}
 use borrow.Author.Rules.{rules}
