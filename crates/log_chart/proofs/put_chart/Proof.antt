@@ -7,9 +7,9 @@ use Rattle.part_sound.proofs.InWords.{lent_whole}
 use Rattle.log_chart.proofs.put_chart.Statement.{statement}
 use Rattle.log_chart.proofs.put_chart.Tie as tie
 
-put-board-requires : tie.Need-put-board-requires
-put-board-requires c κs = let tested : tie.Else1 = search in let asked : tie.After-is-sound = search in let entry : tie.Start = search in
-    let is = holds asked.is_sound.ensures tested.if1.left in
+put-board-requires : tie.Need-put_board-requires
+put-board-requires c κs = let tested : tie.Else-not-is_sound = search in let asked : tie.After-is_sound = search in let entry : tie.Start = search in
+    let is = holds asked.is_sound.ensures tested.if-not-is_sound.false-raw in
     let whole = lent_whole entry.args.w.now is in
     (whole.0, sym (ap sound whole.1) ∙ is)
 
