@@ -1,7 +1,7 @@
 -- The next job's points are the first of those to come, so that no index is out of range.
-use Rattle.std.proofs.Common.{◌≡◌, ◌+◌, ◌≤◌, refl, ap, arith, length}
+use Rattle.std.proofs.Common.{refl, ap, arith}
 use Rattle.spec_plain.specs.Plain.{total}
-use Rattle.part_boardwords.specs.Words.{word_in, held_jobs}
+use Rattle.part_boardwords.specs.Words.{word_in}
 use Rattle.part_boardwords.proofs.Boards.{job_next}
 use Rattle.log_chart.proofs.ChartLaws.{job_some}
 use Rattle.log_chart.proofs.windows.put_windows.Goals as goal
