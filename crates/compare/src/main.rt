@@ -5,63 +5,69 @@
 
 mod meaning; // what an entry that differs means
 
-use libc::STDOUT_FILENO;
 use log_boardtext::put_gap;
-use log_session::{Options, flush, replay_argument};
+use log_session::{Options, argument, argument_count, flush, replay_argument};
 use log_tables::{Compared, compare};
 use log_text::{least, put, put_number};
 use meaning::{Entry, put_meaning};
 use part_boardwords::BOARD_WORDS;
+use std::env::Env;
+use std::io::{Eprint, Print};
+use std::rt::Files;
 
 // Room for a line of output: what waits of an error is short, and a name has at most 4096 bytes.
 const ROOM: usize = 16384;
 
-fn main() {
-    if os::arg_count() != 3 {
-        io::write_all(STDOUT_FILENO, b"! use compare FILE FILE\n");
+fn main(rt: HostRuntime) {
+    if argument_count(&rt) != 3 {
+        let _ = Print::write_all(&rt, b"! use compare FILE FILE\n");
         return;
     }
     let mut first = [0u32; BOARD_WORDS];
-    if is_wrong(1, &mut first) {
+    if is_wrong(&rt, 1, &mut first) {
         return;
     }
     let mut second = [0u32; BOARD_WORDS];
-    if is_wrong(2, &mut second) {
+    if is_wrong(&rt, 2, &mut second) {
         return;
     }
-    write_answer(&first, &second);
+    write_answer(&rt, &first, &second);
 }
 
 // ---- a log
 
 // Replays the kth argument's log without its answers, and says whether an error ended it, which it writes. The last board is left in the words lent.
-fn is_wrong(k: usize, board: &mut [u32; BOARD_WORDS]) -> bool {
+fn is_wrong<R: Env + Files + Print + Eprint>(
+    rt: &R,
+    k: usize,
+    board: &mut [u32; BOARD_WORDS],
+) -> bool {
     let mut out = [0u8; ROOM];
     let quiet = Options {
         shown: false,
         explain: false,
     };
-    let state = replay_argument(k, quiet, board, &mut out);
+    let state = replay_argument(rt, k, quiet, board, &mut out);
     if state.failed {
-        write_error(k, &out, state.waiting);
+        write_error(rt, k, &out, state.waiting);
     }
     state.failed
 }
 
 // Writes `! FILE: LINE WHY` from the line `! LINE WHY` of the replay.
-fn write_error(k: usize, error: &[u8], end: usize) {
+fn write_error<R: Env + Print + Eprint>(rt: &R, k: usize, error: &[u8], end: usize) {
     let stop = least(end, error.len());
     let from = least(2, stop);
     let mut out = [0u8; ROOM];
-    let at = put_name(&mut out, k);
+    let at = put_name(rt, &mut out, k);
     let last = put(&mut out, at, &error[from..stop]);
-    flush(&out, last);
+    flush(rt, &out, last);
 }
 
 // Puts `! FILE: `, with the name of the kth argument's file.
-fn put_name(out: &mut [u8], k: usize) -> usize {
+fn put_name<R: Env>(rt: &R, out: &mut [u8], k: usize) -> usize {
     let mut name = [0u8; 4096];
-    let n = os::arg(k, &mut name);
+    let n = argument(rt, k, &mut name);
     let mark = put(out, 0, b"! ");
     let end = put(out, mark, &name[..n]);
     put(out, end, b": ")
@@ -69,18 +75,22 @@ fn put_name(out: &mut [u8], k: usize) -> usize {
 
 // ---- the answer
 
-fn write_answer(a: &[u32; BOARD_WORDS], b: &[u32; BOARD_WORDS]) {
+fn write_answer<R: Env + Print + Eprint>(
+    rt: &R,
+    a: &[u32; BOARD_WORDS],
+    b: &[u32; BOARD_WORDS],
+) {
     let mut out = [0u8; ROOM];
     let answer = compare(a, b);
-    let end = put_answer(&mut out, answer);
+    let end = put_answer(rt, &mut out, answer);
     let last = put_entry_meaning(&mut out, end, a, b, answer);
-    flush(&out, last);
+    flush(rt, &out, last);
 }
 
-fn put_answer(out: &mut [u8], answer: Compared) -> usize {
+fn put_answer<R: Env>(rt: &R, out: &mut [u8], answer: Compared) -> usize {
     match answer {
-        Compared::FirstUnsound => put_unsound(out, 1),
-        Compared::SecondUnsound => put_unsound(out, 2),
+        Compared::FirstUnsound => put_unsound(rt, out, 1),
+        Compared::SecondUnsound => put_unsound(rt, out, 2),
         Compared::Points(n, m) => put_points(out, n, m),
         Compared::Entry(i, j, x, y) => put_entry(out, i, j, x, y),
         Compared::Equal => put(
@@ -116,8 +126,8 @@ fn put_entry_meaning(
     )
 }
 
-fn put_unsound(out: &mut [u8], k: usize) -> usize {
-    let at = put_name(out, k);
+fn put_unsound<R: Env>(rt: &R, out: &mut [u8], k: usize) -> usize {
+    let at = put_name(rt, out, k);
     put(
         out,
         at,

@@ -2,6 +2,7 @@
 ghost use Rattle.std.specs.Prelude.{◌≤◌, length};
 
 use log_text::{find, least, put};
+use std::io::Read;
 
 // What taking a line found: a line of so many bytes, one for which there is no room, the end of the input, or
 // that the input cannot be read.
@@ -31,12 +32,18 @@ pub struct Chunk {
 
 // Takes the next line into `line`, without its end. The last line need not have one. A line as long as the
 // buffer counts as too long.
-pub fn take_line(fd: i32, chunk: &mut [u8], line: &mut [u8], from: usize, to: usize) -> Taken {
+pub fn take_line<R: Read>(
+    input: &mut R,
+    chunk: &mut [u8],
+    line: &mut [u8],
+    from: usize,
+    to: usize,
+) -> Taken {
     let mut left = from;
     let mut end = to;
     let mut at: usize = 0;
     loop {
-        let more = refill(fd, chunk, left, end);
+        let more = refill(input, chunk, left, end);
         left = more.from;
         end = more.to;
         if left == end {
@@ -57,7 +64,7 @@ pub fn take_line(fd: i32, chunk: &mut [u8], line: &mut [u8], from: usize, to: us
 }
 
 // The unread bytes of the chunk or, where there are none, those that one read brings.
-fn refill(fd: i32, chunk: &mut [u8], from: usize, to: usize) -> Chunk
+fn refill<R: Read>(input: &mut R, chunk: &mut [u8], from: usize, to: usize) -> Chunk
     ensures { (result.from ≤ result.to) × (result.to ≤ length chunk.new) }
 {
     let end = least(to, chunk.len());
@@ -68,11 +75,17 @@ fn refill(fd: i32, chunk: &mut [u8], from: usize, to: usize) -> Chunk
             failed: false,
         };
     }
-    let got = libc::read(fd, chunk);
-    Chunk {
-        from: 0,
-        to: io::count(got, chunk),
-        failed: got < 0,
+    match input.read(chunk) {
+        Ok(to) => Chunk {
+            from: 0,
+            to,
+            failed: false,
+        },
+        Err(_) => Chunk {
+            from: 0,
+            to: 0,
+            failed: true,
+        },
     }
 }
 

@@ -1,19 +1,24 @@
-// The replay of a log, for the programs: lines are taken from a descriptor, ruled on, and answered into a lent buffer. A log of any length
+// The replay of a log, for the programs: lines are taken from what is read, ruled on, and answered into a lent buffer. A log of any length
 // takes the same memory: the buffer is written to standard output whenever it holds much, and what waits at the end is left to the program. So is
 // the last board, in the words that the program lends for it.
-// It may use log_calls and log_explain, and of the kit io, os and libc.
+// It may use log_calls and log_explain, and std's files, input, arguments and printing, by the runtime that a program is given.
 #![tactic(auto)]
 
+mod arguments;
 mod input;
 
 ghost use Rattle.std.specs.Prelude.{◌≤◌};
 
+pub use arguments::{argument, argument_count};
 use input::{Found, take_line};
-use libc::STDOUT_FILENO;
 use log_calls::{Answer, Fault, clear_board, ends, put_answer, put_fault, rule_line};
 use log_explain::put_meaning;
 use log_text::{least, put};
 use part_boardwords::BOARD_WORDS;
+use std::env::Env;
+use std::fs;
+use std::io::{Eprint, Error, ErrorKind, Print, Read};
+use std::rt::Files;
 
 // The room that a program lends for output, and how much may wait before it is written, so that a long log takes few writes. No answer is
 // longer than the rest: that of `list` is its line, of at most 65,535 bytes, and the line's end.
@@ -42,24 +47,37 @@ pub struct State {
 
 // ---- a log
 
-// Replays the file that the program's kth argument names. A file that could not be opened cannot be read either, which the first read finds.
-pub fn replay_argument(
+// Replays the file that the program's kth argument names. A file that cannot be opened cannot be read either, and so is answered.
+pub fn replay_argument<R: Env + Files + Print + Eprint>(
+    rt: &R,
     k: usize,
     options: Options,
     board: &mut [u32; BOARD_WORDS],
     out: &mut [u8],
 ) -> State {
     let mut name = [0u8; 4096];
-    let n = os::arg(k, &mut name);
-    let fd = os::open_read(&name[..n]);
-    let state = replay(fd, &name[..n], options, board, out);
-    libc::close(fd);
-    state
+    let n = argument(rt, k, &mut name);
+    match open(rt, &name[..n]) {
+        Ok(mut file) => replay(rt, &mut file, &name[..n], options, board, out),
+        Err(_) => {
+            clear_board(board);
+            ended(put_unreadable(out, 0, &name[..n]), true)
+        }
+    }
 }
 
-// Replays the log that the descriptor reads; an error names it by `name`. The board of zeros, which it begins with, is put into the words lent.
-pub fn replay(
-    fd: i32,
+// Opens the file of that name for reading. A name that is no text, in UTF-8, is the name of no file that can be.
+fn open<R: Files>(rt: &R, name: &[u8]) -> Result<R::File, Error> {
+    match str::from_utf8(name) {
+        Ok(path) => fs::open(rt, path),
+        Err(_) => Err(Error::from(ErrorKind::InvalidInput)),
+    }
+}
+
+// Replays the log that is read from `input`; an error names it by `name`. The board of zeros, which it begins with, is put into the words lent.
+pub fn replay<R: Print + Eprint, I: Read>(
+    rt: &R,
+    input: &mut I,
     name: &[u8],
     options: Options,
     board: &mut [u32; BOARD_WORDS],
@@ -70,14 +88,15 @@ pub fn replay(
     let mut line = [0u8; 65536];
     let mut plant = [0u8; 16384];
     replay_lines(
-        fd, name, options, &mut chunk, &mut line, &mut plant, board, out,
+        rt, input, name, options, &mut chunk, &mut line, &mut plant, board, out,
     )
 }
 
 // A proved loop has to end, and nothing says that the input does: the turns count down from a number that no
 // run uses up. What they have counted is the row of the line.
-fn replay_lines(
-    fd: i32,
+fn replay_lines<R: Print + Eprint, I: Read>(
+    rt: &R,
+    input: &mut I,
     name: &[u8],
     options: Options,
     chunk: &mut [u8],
@@ -97,11 +116,12 @@ fn replay_lines(
     };
     while 0 < turns {
         turns = turns - 1;
-        let taken = take_line(fd, chunk, line, from, to);
+        let taken = take_line(input, chunk, line, from, to);
         from = taken.from;
         to = taken.to;
         let found = taken.line;
         state = answer(
+            rt,
             found,
             u64::MAX - turns,
             name,
@@ -126,7 +146,8 @@ fn turns_left(turns: u64, goes: bool) -> u64
 // ---- a line
 
 // Answers what was found at a row.
-fn answer(
+fn answer<R: Print + Eprint>(
+    rt: &R,
     found: Found,
     row: u64,
     name: &[u8],
@@ -140,7 +161,7 @@ fn answer(
     match found {
         Found::Whole(n) => {
             let end = least(n, line.len());
-            answer_line(row, options, &line[0..end], plant, board, out, state)
+            answer_line(rt, row, options, &line[0..end], plant, board, out, state)
         }
         Found::TooLong => ended(put_fault(out, state.waiting, row, Fault::LongLine), true),
         Found::End => ended(state.waiting, false),
@@ -148,7 +169,8 @@ fn answer(
     }
 }
 
-fn answer_line(
+fn answer_line<R: Print + Eprint>(
+    rt: &R,
     row: u64,
     options: Options,
     line: &[u8],
@@ -165,7 +187,7 @@ fn answer_line(
     let wrong = ends(answer);
     State {
         plant: have,
-        waiting: drain(out, waiting),
+        waiting: drain(rt, out, waiting),
         goes: !wrong,
         failed: wrong,
     }
@@ -222,18 +244,20 @@ fn put_unreadable(out: &mut [u8], at: usize, name: &[u8]) -> usize {
 }
 
 // Writes the output that waits where it is much, and says how much waits then.
-fn drain(out: &mut [u8], waiting: usize) -> usize {
+fn drain<R: Print + Eprint>(rt: &R, out: &mut [u8], waiting: usize) -> usize {
     if waiting <= FULL {
         return waiting;
     }
-    flush(out, waiting);
+    flush(rt, out, waiting);
     0
 }
 
 // Writes the output that waits; where that fails, standard error says so.
-pub fn flush(out: &[u8], waiting: usize) {
+pub fn flush<R: Print + Eprint>(rt: &R, out: &[u8], waiting: usize) {
     let end = least(waiting, out.len());
-    if !io::write_all(STDOUT_FILENO, &out[0..end]) {
-        os::fail(b"the output could not be written: see that there is room for it");
+    if let Err(e) = rt.write_all(&out[0..end]) {
+        let _ = eprintln!(rt;
+            "the output could not be written: see that there is room for it: {e}"
+        );
     }
 }

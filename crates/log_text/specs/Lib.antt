@@ -1,4 +1,5 @@
 pub mod Counted
 pub mod Decimal
+pub mod Found
 pub mod Hex
 pub mod Written

@@ -1,6 +1,6 @@
 // Text in byte slices: decimal numbers, hex, and answers written into a buffer that the caller lends.
 //
-// It may use base_lists, the kit's `bytes` and, of `io`, the spelling of numbers: nothing here reads or writes a file. No public
+// It may use base_lists and, of the kit's `io`, the spelling of numbers: nothing here reads or writes a file. No public
 // function has a `requires`: a place past the end of a buffer counts as its end, and bytes for which there is no room
 // are left out.
 #![tactic(auto)]

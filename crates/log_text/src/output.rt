@@ -10,7 +10,7 @@ pub fn put(out: &mut [u8], at: usize, s: &[u8]) -> usize
 {
     let start = least(at, out.len());
     let n = least(s.len(), out.len() - start);
-    bytes::copy(&s[0..n], &mut out[start..]);
+    out[start..start + n].copy_from_slice(&s[0..n]);
     start + n
 }
 

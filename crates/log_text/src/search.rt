@@ -1,7 +1,7 @@
 // Places in a slice, and how often a byte stands there.
 ghost use Rattle.std.specs.Prelude.{◌≡◌, ◌≤◌, min, get_or, length, eqb};
-ghost use Rattle.bytes.specs.Bytes.{index_of};
 ghost use Rattle.log_text.specs.Counted.{count_below};
+ghost use Rattle.log_text.specs.Found.{index_of};
 
 // The smaller of the two. Most places go through it, so that none lies past the end of its slice.
 pub fn least(a: usize, b: usize) -> usize
@@ -14,7 +14,14 @@ pub fn least(a: usize, b: usize) -> usize
 pub fn find(s: &[u8], x: u8) -> usize
     ensures { (result ≤ length s.now) × (result ≡ index_of x s.now) }
 {
-    bytes::scan::find(s, 0, s.len(), x)
+    let mut i: usize = 0;
+    while i < s.len() {
+        if s[i] == x {
+            return i;
+        }
+        i = i + 1;
+    }
+    i
 }
 
 // How many bytes of s are x.

@@ -1,6 +1,8 @@
 // The arguments of the program: options, each at most once, then at most one file.
 use check::same;
-use libc::STDOUT_FILENO;
+use log_session::{argument, argument_count};
+use std::env::Env;
+use std::io::Print;
 
 // What is asked: the options, the number of the argument that names the file (0 for standard input), and what is wrong.
 #[derive(Clone, Copy)]
@@ -36,16 +38,16 @@ pub fn is_faulty(fault: Fault) -> bool {
 }
 
 // Reads the arguments, up to the first that is wrong.
-pub fn read_arguments() -> Arguments {
+pub fn read_arguments<R: Env>(rt: &R) -> Arguments {
     let mut asked = Arguments {
         explain: false,
         chart: false,
         file: 0,
         fault: Fault::Nothing,
     };
-    let count = os::arg_count();
+    let count = argument_count(rt);
     for k in 1..count {
-        asked = with_argument(asked, k);
+        asked = with_argument(rt, asked, k);
         let fault = asked.fault;
         if is_faulty(fault) {
             return asked;
@@ -54,9 +56,9 @@ pub fn read_arguments() -> Arguments {
     asked
 }
 
-fn with_argument(asked: Arguments, k: usize) -> Arguments {
+fn with_argument<R: Env>(rt: &R, asked: Arguments, k: usize) -> Arguments {
     let mut text = [0u8; 4096];
-    let n = os::arg(k, &mut text);
+    let n = argument(rt, k, &mut text);
     let word = word_of(&text[..n]);
     if 0 < asked.file {
         return wrong(Fault::BehindFile);
@@ -128,20 +130,17 @@ fn wrong(fault: Fault) -> Arguments {
     }
 }
 
-// Writes what is wrong, and how the program is used.
-pub fn write_fault(fault: Fault) {
-    write_why(fault);
-    io::write_all(
-        STDOUT_FILENO,
-        b": use replay [--explain] [--chart] [FILE]\n",
-    );
+// Writes what is wrong, and how the program is used. Where that cannot be written there is nobody to tell.
+pub fn write_fault<R: Print>(rt: &R, fault: Fault) {
+    let _ = rt.write_all(why(fault));
+    let _ = rt.write_all(b": use replay [--explain] [--chart] [FILE]\n");
 }
 
-fn write_why(fault: Fault) -> bool {
+fn why(fault: Fault) -> &'static [u8] {
     match fault {
-        Fault::Nothing => true,
-        Fault::Unknown => io::write_all(STDOUT_FILENO, b"! 0 there is no such option"),
-        Fault::Twice => io::write_all(STDOUT_FILENO, b"! 0 an option is given twice"),
-        Fault::BehindFile => io::write_all(STDOUT_FILENO, b"! 0 an argument follows the file"),
+        Fault::Nothing => b"",
+        Fault::Unknown => b"! 0 there is no such option",
+        Fault::Twice => b"! 0 an option is given twice",
+        Fault::BehindFile => b"! 0 an argument follows the file",
     }
 }

@@ -6,10 +6,10 @@ use Rattle.spec_plain.specs.Limits.{most_jobs, most_points}
 use Rattle.log_boardtext.proofs.live.Statement.{statement}
 use Rattle.log_boardtext.proofs.live.Tie as tie
 
-abbrev invariant_loop : tie.invariant_loop
+abbrev invariant_loop : tie.invariant-loop-k
 invariant_loop w left₀ n k₀ left k = (k ≤ n) × (n ≤ most_jobs) × (left ≤ most_points)
 
-abbrev decreases_loop : tie.decreases_loop
+abbrev decreases_loop : tie.decreases-loop-k
 decreases_loop w left₀ n k₀ left k = n - k
 
 pub live_spec : {M : Type 1} → statement M

@@ -7,10 +7,10 @@ use borrow.Author.Rules.{rules}
 use Rattle.log_boardtext.proofs.put_rows.Statement.{statement}
 use Rattle.log_boardtext.proofs.put_rows.Tie as tie
 
-abbrev invariant_loop : tie.invariant_loop
+abbrev invariant_loop : tie.invariant-loop-i
 invariant_loop out₀ at w n to₀ i₀ out to i = (i ≤ n) × (length out ≡ length out₀)
 
-abbrev decreases_loop : tie.decreases_loop
+abbrev decreases_loop : tie.decreases-loop-i
 decreases_loop out₀ at w n to₀ i₀ out to i = n - i
 
 pub put_rows_spec : {M : Type 1} → statement M

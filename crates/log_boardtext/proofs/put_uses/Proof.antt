@@ -7,10 +7,10 @@ use borrow.Author.Rules.{rules}
 use Rattle.log_boardtext.proofs.put_uses.Statement.{statement}
 use Rattle.log_boardtext.proofs.put_uses.Tie as tie
 
-abbrev invariant_loop : tie.invariant_loop
+abbrev invariant_loop : tie.invariant-loop-k
 invariant_loop out₀ at w from n to₀ k₀ out to k = (k ≤ n) × (length out ≡ length out₀)
 
-abbrev decreases_loop : tie.decreases_loop
+abbrev decreases_loop : tie.decreases-loop-k
 decreases_loop out₀ at w from n to₀ k₀ out to k = n - k
 
 pub put_uses_spec : {M : Type 1} → statement M

@@ -5,9 +5,9 @@ use borrow.Author.Rules.{rules}
 use Rattle.log_calls.proofs.set_plant.Statement.{statement}
 use Rattle.log_calls.proofs.set_plant.Tie as tie
 
-returns-2 : tie.Need-returns-2
-returns-2 c = let at-decode-hex : tie.After-decode-hex = search in
-    let held = rw c.before.before.bytes.given.1 at at-decode-hex.decode-hex.ensures.1 in
+returns-2 : tie.Need-returns
+returns-2 c = let at-decode-hex : tie.After-decode_hex-bytes = search in
+    let held = rw c.in-Bytes.is at at-decode-hex.decode_hex-bytes.ensures.1 in
     simp length-append (omega arith)
 
 pub set_plant_spec : {M : Type 1} → statement M

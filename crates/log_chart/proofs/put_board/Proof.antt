@@ -9,18 +9,18 @@ use Rattle.part_sound.proofs.Soundness.{sound_sized, sound_few, sound_to}
 use Rattle.log_chart.proofs.put_board.Statement.{statement}
 use Rattle.log_chart.proofs.put_board.Tie as tie
 
-points-in-requires : tie.Need-points-in-requires
+points-in-requires : tie.Need-points_in-n-requires
 points-in-requires c κs = let entry : tie.Start = search in
     let b = board_in entry.args.w.now in
-    (omega arith, (sound_sized b entry.pre.1).count, sound_few b entry.pre.1)
+    (omega arith, (sound_sized b entry.requires.1).count, sound_few b entry.requires.1)
 
-put-shown-requires : tie.Need-put-shown-requires
+put-shown-requires : tie.Need-put_shown-requires
 put-shown-requires c κs = let entry : tie.Start = search in
     let w = entry.args.w.now in
-    let few = (sound_sized (board_in w) entry.pre.1).points in (
-      entry.pre.0,
-      length_lent w entry.pre.0,
-      sound_to (board_in w) (build_length (line_at (word_in w)) resources) entry.pre.1,
+    let few = (sound_sized (board_in w) entry.requires.1).points in (
+      entry.requires.0,
+      length_lent w entry.requires.0,
+      sound_to (board_in w) (build_length (line_at (word_in w)) resources) entry.requires.1,
       omega (arith, few),
     )
 

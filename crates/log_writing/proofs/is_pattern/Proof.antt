@@ -5,10 +5,10 @@ use lib.ListN.{length}
 use Rattle.log_writing.proofs.is_pattern.Statement.{statement}
 use Rattle.log_writing.proofs.is_pattern.Tie as tie
 
-abbrev invariant_loop : tie.invariant_loop
+abbrev invariant_loop : tie.invariant-loop-k
 invariant_loop buffer from k₀ k = Unit {0}
 
-abbrev decreases_loop : tie.decreases_loop
+abbrev decreases_loop : tie.decreases-loop-k
 decreases_loop buffer from k₀ k = length buffer - k
 
 pub is_pattern_spec : {M : Type 1} → statement M

@@ -7,20 +7,20 @@ use Rattle.spec_plain.specs.Limits.{resources}
 use Rattle.log_chart.proofs.rows.put_lines.Statement.{statement}
 use Rattle.log_chart.proofs.rows.put_lines.Tie as tie
 
-abbrev invariant_loop : tie.invariant_loop
+abbrev invariant_loop : tie.invariant-loop-k
 invariant_loop out₀ at t w scale to₀ k₀ out to k = (k ≤ resources) × (length out ≡ length out₀)
 
-abbrev decreases_loop : tie.decreases_loop
+abbrev decreases_loop : tie.decreases-loop-k
 decreases_loop out₀ at t w scale to₀ k₀ out to k = resources - k
 
-loop-holds : tie.Need-loop-init invariant_loop decreases_loop
+loop-holds : tie.Need-loop-k-init invariant_loop decreases_loop
 loop-holds c = (omega arith, refl)
 
-put-line-requires : tie.Need-put-line-requires invariant_loop decreases_loop
+put-line-requires : tie.Need-put_line-to-requires invariant_loop decreases_loop
 put-line-requires c κs = let entry : tie.Start invariant_loop decreases_loop = search in
-    ((entry.pre.0, entry.pre.1, entry.pre.2, entry.pre.4), (omega arith, entry.pre.3 c.before.before.loop.k (omega arith)))
+    ((entry.requires.0, entry.requires.1, entry.requires.2, entry.requires.4), (omega arith, entry.requires.3 c.loop-k.k (omega arith)))
 
-loop-again : tie.Need-loop-preserved invariant_loop decreases_loop
+loop-again : tie.Need-loop-k-preserved invariant_loop decreases_loop
 loop-again c = (omega arith, omega arith)
 
 pub put_lines_spec : {M : Type 1} → statement M

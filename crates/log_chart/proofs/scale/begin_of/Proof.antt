@@ -6,7 +6,7 @@ use borrow.Author.Rules.{rules}
 use Rattle.log_chart.proofs.scale.begin_of.Statement.{statement}
 use Rattle.log_chart.proofs.scale.begin_of.Tie as tie
 
-sub-result : tie.Need-overflow-sub-result
+sub-result : tie.Need-overflow_sub-result
 sub-result c = omega (arith, mod-le c.args.left (10 * c.args.width))
 
 pub begin_of_spec : {M : Type 1} → statement M

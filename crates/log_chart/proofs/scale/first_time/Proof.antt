@@ -9,25 +9,25 @@ use Rattle.log_chart.proofs.ChartLaws.{first_next}
 use Rattle.log_chart.proofs.scale.first_time.Statement.{statement}
 use Rattle.log_chart.proofs.scale.first_time.Tie as tie
 
-abbrev invariant_loop : tie.invariant_loop
+abbrev invariant_loop : tie.invariant-loop-k
 invariant_loop t n time first₀ k₀ first k = (k ≤ n) × (first ≡ first_time (table_of t) k time) × (first ≤ time)
 
-abbrev decreases_loop : tie.decreases_loop
+abbrev decreases_loop : tie.decreases-loop-k
 decreases_loop t n time first₀ k₀ first k = n - k
 
-loop-holds : tie.Need-loop-init invariant_loop decreases_loop
+loop-holds : tie.Need-loop-k-init invariant_loop decreases_loop
 unfolding first_time
 loop-holds c = (omega arith, refl, omega arith)
 
-loop-again : tie.Need-loop-preserved invariant_loop decreases_loop
-loop-again c = let at-loop : tie.At-loop invariant_loop decreases_loop = search in
-    let read = c.before.wide.ensures ∙ c.before.before.earliest.ensures in
-    (omega arith, c.smaller.ensures ∙ first_next _ _ _ _ _ read at-loop.loop.inv.1, omega arith)
+loop-again : tie.Need-loop-k-preserved invariant_loop decreases_loop
+loop-again c = let at-loop : tie.At-loop-k invariant_loop decreases_loop = search in
+    let read = c.wide.ensures ∙ c.earliest.ensures in
+    (omega arith, c.smaller-first.ensures ∙ first_next _ _ _ _ _ read at-loop.loop-k.invariant.1, omega arith)
 
 returns : tie.Need-returns invariant_loop decreases_loop
 returns c = let entry : tie.Start invariant_loop decreases_loop = search in
-    let e : c.before.loop.k ≡ entry.args.n = omega arith in
-    (rw e at c.before.loop.invariant.1, c.before.loop.invariant.2)
+    let e : c.loop-k.k ≡ entry.args.n = omega arith in
+    (rw e at c.loop-k.invariant.1, c.loop-k.invariant.2)
 
 pub first_time_spec : {M : Type 1} → statement M
 first_time_spec =

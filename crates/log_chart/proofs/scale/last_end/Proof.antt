@@ -13,48 +13,48 @@ use Rattle.log_chart.proofs.ChartLaws.{use_low, end_next, end_done}
 use Rattle.log_chart.proofs.scale.last_end.Statement.{statement}
 use Rattle.log_chart.proofs.scale.last_end.Tie as tie
 
-abbrev invariant_loop : tie.invariant_loop
+abbrev invariant_loop : tie.invariant-loop-k
 invariant_loop t w at time count last₀ k₀ last k =
     let us = line_of (line_read (word_in w) at) in
     (k ≤ count) × (last_end (table_of t) (drop k us) last ≡ last_end (table_of t) us time)
 
-abbrev decreases_loop : tie.decreases_loop
+abbrev decreases_loop : tie.decreases-loop-k
 decreases_loop t w at time count last₀ k₀ last k = count - k
 
-loop-holds : tie.Need-loop-init invariant_loop decreases_loop
+loop-holds : tie.Need-loop-k-init invariant_loop decreases_loop
 loop-holds c = (omega arith, refl)
 
-use-at-requires : tie.Need-use-at-requires invariant_loop decreases_loop
-use-at-requires c κs = let entry : tie.Start invariant_loop decreases_loop = search in (entry.pre.1, omega arith)
+use-at-requires : tie.Need-use_at-u-requires invariant_loop decreases_loop
+use-at-requires c κs = let entry : tie.Start invariant_loop decreases_loop = search in (entry.requires.1, omega arith)
 
 end-requires : tie.Need-end-requires invariant_loop decreases_loop
 end-requires c κs =
-    let inside = c.before in
+    let inside = c in
     let entry : tie.Start invariant_loop decreases_loop = search in
-    (entry.pre.0, use_low entry.pre.2 inside.loop-test.true c.use_at_lem.ensures)
+    (entry.requires.0, use_low entry.requires.2 inside.loop-k-test.true c.use_at-u.ensures)
 
-loop-again : tie.Need-loop-preserved invariant_loop decreases_loop
+loop-again : tie.Need-loop-k-preserved invariant_loop decreases_loop
 loop-again c =
-    let ends = c.before in
-    let read : tie.After-use-at invariant_loop decreases_loop = search in
-    let inside : tie.In-loop invariant_loop decreases_loop = search in
-    let turn : tie.At-loop invariant_loop decreases_loop = search in
+    let ends = c in
+    let read : tie.After-use_at-u invariant_loop decreases_loop = search in
+    let inside : tie.In-loop-k invariant_loop decreases_loop = search in
+    let turn : tie.At-loop-k invariant_loop decreases_loop = search in
     let entry : tie.Start invariant_loop decreases_loop = search in
-    let L = turn.loop in
+    let L = turn.loop-k in
     let f = word_in entry.args.w.now in
     let line = line_of (line_read f entry.args.at) in
-    let next = use_next f entry.args.at entry.pre.2.count L.k _ inside.loop-test.taken read.use_at_lem.ensures in
-    let last = c.larger.ensures ∙ ap (λ (e : ℕ). max L.last e) ends.end.ensures in
-    (omega arith, end_next _ line entry.args.time L.k L.last L.inv.1 _ _ next last)
+    let next = use_next f entry.args.at entry.requires.2.count L.k _ inside.loop-k-test.true read.use_at-u.ensures in
+    let last = c.larger-last.ensures ∙ ap (λ (e : ℕ). max L.last e) ends.end.ensures in
+    (omega arith, end_next _ line entry.args.time L.k L.last L.invariant.1 _ _ next last)
 
 returns : tie.Need-returns invariant_loop decreases_loop
 returns c =
-    let turn = c.before in
+    let turn = c in
     let entry : tie.Start invariant_loop decreases_loop = search in
-    let L = turn.loop in
+    let L = turn.loop-k in
     let f = word_in entry.args.w.now in
     let line = line_of (line_read f entry.args.at) in
-    let over = use_over f entry.args.at entry.pre.2.count L.k (omega arith) in
+    let over = use_over f entry.args.at entry.requires.2.count L.k (omega arith) in
     end_done _ line entry.args.time L.k L.last L.invariant.1 over
 
 pub last_end_spec : {M : Type 1} → statement M

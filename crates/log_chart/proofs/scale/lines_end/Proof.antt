@@ -15,39 +15,39 @@ use Rattle.log_chart.proofs.ChartLaws.{lines_next, lines_done}
 use Rattle.log_chart.proofs.scale.lines_end.Statement.{statement}
 use Rattle.log_chart.proofs.scale.lines_end.Tie as tie
 
-abbrev invariant_loop : tie.invariant_loop
+abbrev invariant_loop : tie.invariant-loop-k
 invariant_loop t w time last₀ k₀ last k = (k ≤ resources)
     × (lines_end (table_of t) (drop k (lines_read (word_in w))) last ≡ lines_end (table_of t) (lines_read (word_in w)) time)
 
-abbrev decreases_loop : tie.decreases_loop
+abbrev decreases_loop : tie.decreases-loop-k
 decreases_loop t w time last₀ k₀ last k = resources - k
 
-loop-holds : tie.Need-loop-init invariant_loop decreases_loop
+loop-holds : tie.Need-loop-k-init invariant_loop decreases_loop
 loop-holds c = (omega arith, refl)
 
-last-end-requires : tie.Need-last-end-requires invariant_loop decreases_loop
+last-end-requires : tie.Need-last_end-last-requires invariant_loop decreases_loop
 last-end-requires c κs =
-    let turn : tie.At-loop invariant_loop decreases_loop = search in let entry : tie.Start invariant_loop decreases_loop = search in let is = c.line-start.ensures in
-    let on = subst (OnTable (word_in entry.args.w.now)) (sym is) (entry.pre.2 turn.loop.k (omega arith)) in
-    (entry.pre.0, omega (arith, is), on)
+    let turn : tie.At-loop-k invariant_loop decreases_loop = search in let entry : tie.Start invariant_loop decreases_loop = search in let is = c.line_start.ensures in
+    let on = subst (OnTable (word_in entry.args.w.now)) (sym is) (entry.requires.2 turn.loop-k.k (omega arith)) in
+    (entry.requires.0, omega (arith, is), on)
 
-loop-again : tie.Need-loop-preserved invariant_loop decreases_loop
+loop-again : tie.Need-loop-k-preserved invariant_loop decreases_loop
 loop-again c =
-    let start = c.before in
-    let turn : tie.At-loop invariant_loop decreases_loop = search in
+    let start = c in
+    let turn : tie.At-loop-k invariant_loop decreases_loop = search in
     let entry : tie.Start invariant_loop decreases_loop = search in
-    let L = turn.loop in
+    let L = turn.loop-k in
     let w = word_in entry.args.w.now in
-    let is = ap (line_read w) start.line-start.ensures ∙ sym (line_of_lem w L.k (omega arith)) in
+    let is = ap (line_read w) start.line_start.ensures ∙ sym (line_of_lem w L.k (omega arith)) in
     let line = ap (λ (l : Line). last_end (table_of entry.args.t.now) (line_of l) L.last) is in
     let many = build_length (line_at w) resources in
-    (omega arith, lines_next _ (lines_read w) entry.args.time L.k L.last L.inv.1 _ (omega (arith, many)) (c.last-end.ensures ∙ line))
+    (omega arith, lines_next _ (lines_read w) entry.args.time L.k L.last L.invariant.1 _ (omega (arith, many)) (c.last_end-last.ensures ∙ line))
 
 returns : tie.Need-returns invariant_loop decreases_loop
 returns c =
-    let turn = c.before in
+    let turn = c in
     let entry : tie.Start invariant_loop decreases_loop = search in
-    let L = turn.loop in
+    let L = turn.loop-k in
     let w = word_in entry.args.w.now in
     lines_done _ (lines_read w) entry.args.time L.k L.last L.invariant.1 (omega (arith, build_length (line_at w) resources))
 

@@ -6,11 +6,11 @@ use Rattle.log_chart.proofs.scale.scale_of.Statement.{statement}
 use Rattle.log_chart.proofs.scale.scale_of.Tie as tie
 
 returns : tie.Need-returns
-returns c = let last-read : tie.After-last-time = search in let first_read : tie.After-first-time = search in let widened : tie.After-wide = search in
-    let width = c.before.width_of_lem.ensures in
-    let begin = c.begin-of.ensures in (
-      scale_is _ _ _ _ _ _ _ _ _ _ widened.wide.ensures first_read.first-time.ensures.0 last-read.last-time.ensures
-          c.before.before.lines_end.ensures width.0 begin.0,
+returns c = let last-read : tie.After-last_time = search in let first_read : tie.After-first_time-left = search in let widened : tie.After-wide-now = search in
+    let width = c.width_of-width.ensures in
+    let begin = c.begin_of.ensures in (
+      scale_is _ _ _ _ _ _ _ _ _ _ widened.wide-now.ensures first_read.first_time-left.ensures.0 last-read.last_time.ensures
+          c.lines_end-right.ensures width.0 begin.0,
       record { begin = omega arith; some = width.1; column = width.2 },
     )
 

@@ -9,27 +9,27 @@ use Rattle.log_chart.proofs.ChartLaws.{width_fits, width_next, width_done}
 use Rattle.log_chart.proofs.scale.width_of.Statement.{statement}
 use Rattle.log_chart.proofs.scale.width_of.Tie as tie
 
-abbrev invariant_loop : tie.invariant_loop
+abbrev invariant_loop : tie.invariant-loop-k
 invariant_loop left right k₀ k = (k ≤ 20) × (first_fit left right (drop k widths) ≡ width_of left right)
 
-abbrev decreases_loop : tie.decreases_loop
+abbrev decreases_loop : tie.decreases-loop-k
 decreases_loop left right k₀ k = 20 - k
 
-loop-holds : tie.Need-loop-init invariant_loop decreases_loop
+loop-holds : tie.Need-loop-k-init invariant_loop decreases_loop
 loop-holds c = (omega arith, refl)
 
-returns : tie.Need-returns invariant_loop decreases_loop
-returns c = let at-loop : tie.At-loop invariant_loop decreases_loop = search in
-    let w = c.before.before.nth-width.ensures in
-    (width_fits _ _ at-loop.loop.k at-loop.loop.inv.1 _ (omega arith) w.0 (sym c.before.is-fit.ensures ∙ c.if1.true), w.1, w.2)
+returns : tie.Need-returns-then-is_fit invariant_loop decreases_loop
+returns c = let at-loop : tie.At-loop-k invariant_loop decreases_loop = search in
+    let w = c.nth_width-width.ensures in
+    (width_fits _ _ at-loop.loop-k.k at-loop.loop-k.invariant.1 _ (omega arith) w.0 (sym c.is_fit.ensures ∙ c.if-is_fit.true), w.1, w.2)
 
-loop-again : tie.Need-loop-preserved invariant_loop decreases_loop
-loop-again c = let at-loop : tie.At-loop invariant_loop decreases_loop = search in let k = at-loop.loop.k in
-    let narrow = sym c.before.is-fit.ensures ∙ c.if1.false in
-    (omega arith, width_next _ _ k at-loop.loop.inv.1 _ (omega arith) c.before.before.nth-width.ensures.0 narrow)
+loop-again : tie.Need-loop-k-preserved invariant_loop decreases_loop
+loop-again c = let at-loop : tie.At-loop-k invariant_loop decreases_loop = search in let k = at-loop.loop-k.k in
+    let narrow = sym c.is_fit.ensures ∙ c.if-is_fit.false in
+    (omega arith, width_next _ _ k at-loop.loop-k.invariant.1 _ (omega arith) c.nth_width-width.ensures.0 narrow)
 
-returns-2 : tie.Need-returns-2 invariant_loop decreases_loop
-returns-2 c = (width_done _ _ c.before.loop.k c.before.loop.invariant.1 (omega arith), omega arith, omega arith)
+returns-2 : tie.Need-returns invariant_loop decreases_loop
+returns-2 c = (width_done _ _ c.loop-k.k c.loop-k.invariant.1 (omega arith), omega arith, omega arith)
 
 pub width_of_spec : {M : Type 1} → statement M
 width_of_spec =

@@ -13,36 +13,36 @@ use Rattle.log_chart.proofs.ChartLaws.{job_here, job_on, job_end}
 use Rattle.log_chart.proofs.uses.job_of.Statement.{statement}
 use Rattle.log_chart.proofs.uses.job_of.Tie as tie
 
-abbrev invariant_loop : tie.invariant_loop
+abbrev invariant_loop : tie.invariant-loop-place
 invariant_loop w x count k₀ place₀ k place =
     let js = jobs_of (held_jobs (word_in w)) in
     (place ≤ count) × (job_of js x ≡ place + job_of (drop place js) k)
 
-abbrev decreases_loop : tie.decreases_loop
+abbrev decreases_loop : tie.decreases-loop-place
 decreases_loop w x count k₀ place₀ k place = count - place
 
-loop-holds : tie.Need-loop-init invariant_loop decreases_loop
+loop-holds : tie.Need-loop-place-init invariant_loop decreases_loop
 loop-holds c = (omega arith, omega arith)
 
-returns : tie.Need-returns invariant_loop decreases_loop
-returns c = let in-turn : tie.In-loop invariant_loop decreases_loop = search in let turn : tie.At-loop invariant_loop decreases_loop = search in
-    let entry : tie.Start invariant_loop decreases_loop = search in let L = turn.loop in let read : tie.After-job-at invariant_loop decreases_loop = search in
-    let next = job_next (word_in entry.args.w.now) entry.pre.1 L.place _ in-turn.loop-test.taken read.job-at.ensures in
-    (job_here _ _ _ _ L.inv.1 _ _ next c.if1.true, omega arith)
+returns : tie.Need-returns-then-k-job invariant_loop decreases_loop
+returns c = let in-turn : tie.In-loop-place invariant_loop decreases_loop = search in let turn : tie.At-loop-place invariant_loop decreases_loop = search in
+    let entry : tie.Start invariant_loop decreases_loop = search in let L = turn.loop-place in let read : tie.After-job_at-job invariant_loop decreases_loop = search in
+    let next = job_next (word_in entry.args.w.now) entry.requires.1 L.place _ in-turn.loop-place-test.true read.job_at-job.ensures in
+    (job_here _ _ _ _ L.invariant.1 _ _ next c.if-k-job.true, omega arith)
 
-loop-again : tie.Need-loop-preserved invariant_loop decreases_loop
-loop-again c = let in-turn : tie.In-loop invariant_loop decreases_loop = search in let turn : tie.At-loop invariant_loop decreases_loop = search in
-    let entry : tie.Start invariant_loop decreases_loop = search in let L = turn.loop in let read : tie.After-job-at invariant_loop decreases_loop = search in
-    let next = job_next (word_in entry.args.w.now) entry.pre.1 L.place _ in-turn.loop-test.taken read.job-at.ensures in
-    (omega arith, job_on _ _ _ _ L.inv.1 _ next c.before.if1.false)
+loop-again : tie.Need-loop-place-preserved invariant_loop decreases_loop
+loop-again c = let in-turn : tie.In-loop-place invariant_loop decreases_loop = search in let turn : tie.At-loop-place invariant_loop decreases_loop = search in
+    let entry : tie.Start invariant_loop decreases_loop = search in let L = turn.loop-place in let read : tie.After-job_at-job invariant_loop decreases_loop = search in
+    let next = job_next (word_in entry.args.w.now) entry.requires.1 L.place _ in-turn.loop-place-test.true read.job_at-job.ensures in
+    (omega arith, job_on _ _ _ _ L.invariant.1 _ next c.if-k-job.false)
 
-returns-2 : tie.Need-returns-2 invariant_loop decreases_loop
+returns-2 : tie.Need-returns invariant_loop decreases_loop
 returns-2 c =
-    let turn = c.before in
+    let turn = c in
     let entry : tie.Start invariant_loop decreases_loop = search in
-    let L = turn.loop in
+    let L = turn.loop-place in
     let same : L.place ≡ word_in entry.args.w.now count_at = omega arith in
-    (sym same ∙ job_end _ _ _ _ L.invariant.1 (job_over (word_in entry.args.w.now) entry.pre.1 L.place (omega arith)), omega arith)
+    (sym same ∙ job_end _ _ _ _ L.invariant.1 (job_over (word_in entry.args.w.now) entry.requires.1 L.place (omega arith)), omega arith)
 
 pub job_of_spec : {M : Type 1} → statement M
 job_of_spec =

@@ -12,48 +12,48 @@ use Rattle.log_chart.proofs.ChartLaws.{use_low, mark_next, mark_end}
 use Rattle.log_chart.proofs.uses.mark_at.Statement.{statement}
 use Rattle.log_chart.proofs.uses.mark_at.Tie as tie
 
-abbrev invariant_loop : tie.invariant_loop
+abbrev invariant_loop : tie.invariant-loop-k
 invariant_loop t w at from to count mark₀ k₀ mark k =
     let f = word_in w in
     let js = jobs_of (held_jobs f) in
     let us = line_of (line_read f at) in
     (k ≤ count) × (glyph_over (table_of t) js (drop k us) from to mark ≡ glyph_over (table_of t) js us from to 32)
 
-abbrev decreases_loop : tie.decreases_loop
+abbrev decreases_loop : tie.decreases-loop-k
 decreases_loop t w at from to count mark₀ k₀ mark k = count - k
 
-loop-holds : tie.Need-loop-init invariant_loop decreases_loop
+loop-holds : tie.Need-loop-k-init invariant_loop decreases_loop
 loop-holds c = (omega arith, refl)
 
-use-at-requires : tie.Need-use-at-requires invariant_loop decreases_loop
-use-at-requires c κs = let entry : tie.Start invariant_loop decreases_loop = search in (entry.pre.1.0, omega arith)
+use-at-requires : tie.Need-use_at-u-requires invariant_loop decreases_loop
+use-at-requires c κs = let entry : tie.Start invariant_loop decreases_loop = search in (entry.requires.1.0, omega arith)
 
-mark-over-requires : tie.Need-mark-over-requires invariant_loop decreases_loop
+mark-over-requires : tie.Need-mark_over-mark-requires invariant_loop decreases_loop
 mark-over-requires c κs =
-    let inside = c.before in
+    let inside = c in
     let entry : tie.Start invariant_loop decreases_loop = search in
-    (entry.pre.0.0, use_low entry.pre.1.1 inside.loop-test.true c.use_at_lem.ensures, entry.pre.0.1, entry.pre.0.2)
+    (entry.requires.0.0, use_low entry.requires.1.1 inside.loop-k-test.true c.use_at-u.ensures, entry.requires.0.1, entry.requires.0.2)
 
-loop-again : tie.Need-loop-preserved invariant_loop decreases_loop
+loop-again : tie.Need-loop-k-preserved invariant_loop decreases_loop
 loop-again c =
-    let read = c.before in
-    let inside : tie.In-loop invariant_loop decreases_loop = search in
-    let turn : tie.At-loop invariant_loop decreases_loop = search in
+    let read = c in
+    let inside : tie.In-loop-k invariant_loop decreases_loop = search in
+    let turn : tie.At-loop-k invariant_loop decreases_loop = search in
     let entry : tie.Start invariant_loop decreases_loop = search in
-    let L = turn.loop in
+    let L = turn.loop-k in
     let A = entry.args in
     let f = word_in A.w.now in
-    let next = use_next f A.at entry.pre.1.1.count L.k _ inside.loop-test.taken read.use_at_lem.ensures in
-    (omega arith, mark_next _ _ (line_of (line_read f A.at)) A.from A.to 32 L.k L.mark L.inv.1 _ _ next c.mark_over.ensures)
+    let next = use_next f A.at entry.requires.1.1.count L.k _ inside.loop-k-test.true read.use_at-u.ensures in
+    (omega arith, mark_next _ _ (line_of (line_read f A.at)) A.from A.to 32 L.k L.mark L.invariant.1 _ _ next c.mark_over-mark.ensures)
 
 returns : tie.Need-returns invariant_loop decreases_loop
 returns c =
-    let turn = c.before in
+    let turn = c in
     let entry : tie.Start invariant_loop decreases_loop = search in
-    let L = turn.loop in
+    let L = turn.loop-k in
     let A = entry.args in
     let f = word_in A.w.now in
-    let over = use_over f A.at entry.pre.1.1.count L.k (omega arith) in
+    let over = use_over f A.at entry.requires.1.1.count L.k (omega arith) in
     mark_end _ _ (line_of (line_read f A.at)) A.from A.to 32 L.k L.mark L.invariant.1 over
 
 pub mark_at_spec : {M : Type 1} → statement M

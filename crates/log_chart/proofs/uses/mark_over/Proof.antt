@@ -6,12 +6,12 @@ use Rattle.log_chart.proofs.ChartLaws.{mark_over, mark_left}
 use Rattle.log_chart.proofs.uses.mark_over.Statement.{statement}
 use Rattle.log_chart.proofs.uses.mark_over.Tie as tie
 
-returns : tie.Need-returns
-returns c = let asked : tie.After-is-covering = search in
-    mark_over _ _ _ _ (sym asked.is-covering.ensures ∙ c.before.before.if1.true) (c.glyph.ensures ∙ ap glyph_of c.before.job_of.ensures.0)
+returns : tie.Need-returns-then-is_covering
+returns c = let asked : tie.After-is_covering = search in
+    mark_over _ _ _ _ (sym asked.is_covering.ensures ∙ c.if-is_covering.true) (c.glyph.ensures ∙ ap glyph_of c.job_of.ensures.0)
 
-returns-2 : tie.Need-returns-2
-returns-2 c = mark_left _ _ _ (sym c.before.is-covering.ensures ∙ c.if1.false)
+returns-2 : tie.Need-returns
+returns-2 c = mark_left _ _ _ (sym c.is_covering.ensures ∙ c.if-is_covering.false)
 
 pub mark_over_spec : {M : Type 1} → statement M
 mark_over_spec = tie.close (tie.spec (λ c κs. search rules) (λ c κs. search rules) (λ c κs. search rules) returns returns-2)

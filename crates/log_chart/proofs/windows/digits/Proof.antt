@@ -4,10 +4,10 @@ use native.Mathlib.Omega.{arith}
 use Rattle.log_chart.proofs.windows.digits.Statement.{statement}
 use Rattle.log_chart.proofs.windows.digits.Tie as tie
 
-abbrev invariant_loop : tie.invariant_loop
+abbrev invariant_loop : tie.invariant-loop-left
 invariant_loop n left₀ count₀ left count = count + left ≤ n + 1
 
-abbrev decreases_loop : tie.decreases_loop
+abbrev decreases_loop : tie.decreases-loop-left
 decreases_loop n left₀ count₀ left count = left
 
 pub digits_spec : {M : Type 1} → statement M

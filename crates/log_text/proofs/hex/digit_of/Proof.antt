@@ -4,11 +4,11 @@ use borrow.Author.Rules.{rules}
 use Rattle.log_text.proofs.hex.digit_of.Statement.{statement}
 use Rattle.log_text.proofs.hex.digit_of.Tie as tie
 
-returns : tie.Need-returns
-returns c = simp (lt-ltb _ _ c.if1.true)
+returns : tie.Need-returns-then-d-lt10
+returns c = simp (lt-ltb _ _ c.if-d-lt10.true)
 
-returns-2 : tie.Need-returns-2
-returns-2 c = simp (le-ltb _ _ c.if1.false)
+returns-2 : tie.Need-returns
+returns-2 c = simp (le-ltb _ _ c.if-d-lt10.false)
 
 pub digit_of_spec : {M : Type 1} → statement M
 digit_of_spec = tie.close (tie.spec (λ c. search rules) returns (λ c. search rules) returns-2)

@@ -10,28 +10,28 @@ use lib.ListN.{length}
 use Rattle.log_text.proofs.hex.put_pairs.Statement.{statement}
 use Rattle.log_text.proofs.hex.put_pairs.Tie as tie
 
-abbrev invariant_loop : tie.invariant_loop
+abbrev invariant_loop : tie.invariant-loop-i
 invariant_loop out₀ at s to₀ i₀ out to i = (length out ≡ length out₀) × (i ≤ length s) × Written out₀ at (encoded_to s i) out to
 
-abbrev decreases_loop : tie.decreases_loop
+abbrev decreases_loop : tie.decreases-loop-i
 decreases_loop out₀ at s to₀ i₀ out to i = length s - i
 
-loop-holds : tie.Need-loop-init invariant_loop decreases_loop
+loop-holds : tie.Need-loop-i-init invariant_loop decreases_loop
 loop-holds c = let entry : tie.Start invariant_loop decreases_loop = search in let A = entry.args in
-    (refl, omega arith, rw (encoded_none A.s.now) (written_start A.out.now A.at c.least.result c.least.ensures.2))
+    (refl, omega arith, rw (encoded_none A.s.now) (written_start A.out.now A.at c.least-to.result c.least-to.ensures.2))
 
-loop-again : tie.Need-loop-preserved invariant_loop decreases_loop
-loop-again c = let at-loop : tie.At-loop invariant_loop decreases_loop = search in let entry : tie.Start invariant_loop decreases_loop = search in
-    let L = at-loop.loop in (
+loop-again : tie.Need-loop-i-preserved invariant_loop decreases_loop
+loop-again c = let at-loop : tie.At-loop-i invariant_loop decreases_loop = search in let entry : tie.Start invariant_loop decreases_loop = search in
+    let L = at-loop.loop-i in (
       omega arith,
       omega arith,
-      rw (encoded_more entry.args.s.now L.i) (written_more _ _ _ _ _ _ _ _ L.inv.2 c.before.before.put-pair.ensures),
+      rw (encoded_more entry.args.s.now L.i) (written_more _ _ _ _ _ _ _ _ L.invariant.2 c.put_pair-to.ensures),
     )
 
 returns : tie.Need-returns invariant_loop decreases_loop
 returns c = let entry : tie.Start invariant_loop decreases_loop = search in
-    let e : c.before.loop.i ≡ length entry.args.s.now = omega arith in
-    rw e at c.before.loop.invariant.2
+    let e : c.loop-i.i ≡ length entry.args.s.now = omega arith in
+    rw e at c.loop-i.invariant.2
 
 pub put_pairs_spec : {M : Type 1} → statement M
 put_pairs_spec =

@@ -5,13 +5,13 @@ use borrow.Author.Rules.{rules}
 use Rattle.log_text.proofs.number.is_padded.Statement.{statement}
 use Rattle.log_text.proofs.number.is_padded.Tie as tie
 
-returns : tie.Need-returns
+returns : tie.Need-returns-then-s-gt1
 unfolding zero_led
-returns c = simp (lt-ltb _ _ c.before.if1.true)
+returns c = simp (lt-ltb _ _ c.if-s-gt1.true)
 
-returns-2 : tie.Need-returns-2
+returns-2 : tie.Need-returns
 unfolding zero_led
-returns-2 c = simp (le-ltb _ _ c.if1.false)
+returns-2 c = simp (le-ltb _ _ c.if-s-gt1.false)
 
 pub is_padded_spec : {M : Type 1} → statement M
 is_padded_spec = tie.close (tie.spec (λ c. search rules) returns returns-2)

@@ -13,40 +13,40 @@ use lib.ListN.{length}
 use Rattle.log_text.proofs.number.read_digits.Statement.{statement}
 use Rattle.log_text.proofs.number.read_digits.Tie as tie
 
-abbrev invariant_loop : tie.invariant_loop
+abbrev invariant_loop : tie.invariant-loop-i
 invariant_loop s value₀ i₀ value i = (i ≤ length s) × (value ≤ 4294967295) × (value ≡ value_to s i) × (all_below (digit_at s) i ≡ true)
 
-abbrev decreases_loop : tie.decreases_loop
+abbrev decreases_loop : tie.decreases-loop-i
 decreases_loop s value₀ i₀ value i = length s - i
 
-loop-holds : tie.Need-loop-init invariant_loop decreases_loop
+loop-holds : tie.Need-loop-i-init invariant_loop decreases_loop
 loop-holds c = (omega arith, omega arith, sym (value_none _), sym (all_below_none _))
 
-returns : tie.Need-returns invariant_loop decreases_loop
-returns c = let at-loop-test : tie.In-loop invariant_loop decreases_loop = search in let at-loop : tie.At-loop invariant_loop decreases_loop = search in
-    no_digit _ at-loop.loop.i at-loop-test.loop-test.taken (sym c.before.is_digit.ensures ∙ not-true _ c.if1.true)
+returns : tie.Need-returns-then-not-is_digit invariant_loop decreases_loop
+returns c = let at-loop-test : tie.In-loop-i invariant_loop decreases_loop = search in let at-loop : tie.At-loop-i invariant_loop decreases_loop = search in
+    no_digit _ at-loop.loop-i.i at-loop-test.loop-i-test.true (sym c.is_digit.ensures ∙ not-true _ c.if-not-is_digit.true-raw)
 
-add-value : tie.Need-overflow-add-value invariant_loop decreases_loop
-add-value c = let at-loop : tie.At-loop invariant_loop decreases_loop = search in
-    omega (arith, c.before.shared-slice-known3.given at-loop.loop.i)
+add-value : tie.Need-overflow_add-value invariant_loop decreases_loop
+add-value c = let at-loop : tie.At-loop-i invariant_loop decreases_loop = search in
+    omega (arith, c.shared_slice_known-in-loop-i-2-1.given at-loop.loop-i.i)
 
-returns-2 : tie.Need-returns-2 invariant_loop decreases_loop
-returns-2 c = let at-loop : tie.At-loop invariant_loop decreases_loop = search in let entry : tie.Start invariant_loop decreases_loop = search in
-    too_large entry.args.s.now (at-loop.loop.i + 1) (omega arith) (omega (arith, value_more entry.args.s.now at-loop.loop.i))
+returns-2 : tie.Need-returns-then-value-gt4294967295 invariant_loop decreases_loop
+returns-2 c = let at-loop : tie.At-loop-i invariant_loop decreases_loop = search in let entry : tie.Start invariant_loop decreases_loop = search in
+    too_large entry.args.s.now (at-loop.loop-i.i + 1) (omega arith) (omega (arith, value_more entry.args.s.now at-loop.loop-i.i))
 
-loop-again : tie.Need-loop-preserved invariant_loop decreases_loop
-loop-again c = let at-if1 : tie.Else1 invariant_loop decreases_loop = search in let at-is-digit : tie.After-is-digit invariant_loop decreases_loop = search in
-    let at-loop : tie.At-loop invariant_loop decreases_loop = search in let entry : tie.Start invariant_loop decreases_loop = search in
+loop-again : tie.Need-loop-i-preserved invariant_loop decreases_loop
+loop-again c = let at-if1 : tie.Else-not-is_digit invariant_loop decreases_loop = search in let at-is-digit : tie.After-is_digit invariant_loop decreases_loop = search in
+    let at-loop : tie.At-loop-i invariant_loop decreases_loop = search in let entry : tie.Start invariant_loop decreases_loop = search in
     let s = entry.args.s.now in (
       omega arith,
       omega arith,
-      omega (arith, value_more s at-loop.loop.i),
-      all_below_passes (digit_at s) at-loop.loop.i at-loop.loop.inv.3 (sym at-is-digit.is_digit.ensures ∙ not-false _ at-if1.if1.left),
+      omega (arith, value_more s at-loop.loop-i.i),
+      all_below_passes (digit_at s) at-loop.loop-i.i at-loop.loop-i.invariant.3 (sym at-is-digit.is_digit.ensures ∙ not-false _ at-if1.if-not-is_digit.false-raw),
     )
 
-returns-3 : tie.Need-returns-3 invariant_loop decreases_loop
+returns-3 : tie.Need-returns invariant_loop decreases_loop
 returns-3 c = let entry : tie.Start invariant_loop decreases_loop = search in
-    let L = c.before.loop in
+    let L = c.loop-i in
     let e : L.i ≡ length entry.args.s.now = omega arith in
     let v : L.value ≡ value_to entry.args.s.now (length entry.args.s.now) = rw e at L.invariant.2 in
     rw v (all_digits entry.args.s.now (rw e at L.invariant.3) (omega arith))

@@ -1,0 +1,7 @@
+-- Where a byte stands first. Assumes nothing.
+--   index_of x s   the place of the first x in s, or the length where there is none
+use Rattle.std.specs.Prelude.{ℕ, List, eqb}
+use Rattle.std.specs.List.{position_or_len}
+
+abbrev pub index_of : ℕ → List ℕ → ℕ
+index_of x s = position_or_len (λ b. eqb b x) s
