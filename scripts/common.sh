@@ -20,18 +20,59 @@ need_cargo() { need cargo "Rust's build tool" "install Rust with cargo"; }
 build_libraries() {
     local library
     say "proving and building the static libraries (some minutes the first time)"
+    mkdir -p target/staticlib || stop "target/staticlib cannot be written: see that there is room."
     for library in factcheck cabi; do
-        rt staticlib "$library" >/dev/null 2>&1 || stop "the static library was not built: run 'rt staticlib $library' to see why."
+        { (cd "crates/$library" && rt lib) >/dev/null 2>&1 && cp "crates/$library/out/lib$library.a" target/staticlib; } \
+            || stop "the static library was not built: run 'rt lib' in crates/$library to see why."
     done
 }
 
-# Proves and builds the programs, in target/bin.
+# Proves and builds the programs, in target/bin. rt builds a program to run it, here on no input and with no argument.
 build_programs() {
     local program
     say "proving and building the programs 'replay' and 'compare' (some ten minutes the first time, at once after that)"
+    mkdir -p target/bin || stop "target/bin cannot be written: see that there is room."
     for program in replay compare; do
-        rt check "$program" >/dev/null 2>&1 || stop "$program was not proved: run 'rt check $program' to see why."
+        (cd "crates/$program" && rt run </dev/null) >"target/bin/$program.log" 2>&1
+        { grep -q '^rt: running ' "target/bin/$program.log" && cp "crates/$program/out/$program" target/bin; } \
+            || stop "$program was not proved: target/bin/$program.log says why."
     done
+}
+
+# crates_alone FOLDER: a copy of the crates in which edits are checked. What rt keeps of them is not copied: rt finds it where it is.
+crates_alone() {
+    local part
+    mkdir -p "$1" && cp crates.txt "$1" || return
+    for part in crates/*/{src,specs,proofs}; do
+        [ ! -d "$part" ] || { mkdir -p "$1/${part%/*}" && cp -r "$part" "$1/$part"; } || return
+    done
+}
+
+# edited EDIT FOLDER: makes the changes of an edit, of which each `file:` lies below the folder and `\n` is the end of a line; false, and why, where it cannot
+edited() {
+    local line file='' old='' new text
+    while IFS= read -r line; do
+        case $line in
+            'file: '*) file=$2/${line#file: } ;;
+            'old: '*) old=$(printf '%b' "${line#old: }") ;;
+            'new:'*)
+                new=$(printf '%b' "${line#new: }")
+                text=$(cat "$file") || return
+                case $text in
+                    *"$old"*"$old"*) printf '%s: the text to change is in %s more than once: %s\n' "$1" "$file" "$old"; return 1 ;;
+                    *"$old"*) ;;
+                    *) printf '%s: the text to change is not in %s: %s\n' "$1" "$file" "$old"; return 1 ;;
+                esac
+                printf '%s\n' "${text/"$old"/"$new"}" >"$file"
+                ;;
+        esac
+    done <"$1"
+}
+
+# as_it_was EDIT FOLDER FROM: puts the files of an edit back
+as_it_was() {
+    local file
+    sed -n 's/^file: //p' "$1" | sort -u | while IFS= read -r file; do cp "$3/$file" "$2/$file"; done
 }
 
 # The seed of made-up logs: SEED where that is set, else the first eight digits of the commit, so that each commit tries other logs and the same commit
