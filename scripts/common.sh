@@ -16,27 +16,41 @@ need_rt() { need rt "the Rattle kit" "install the Rattle kit and put its 'rt' on
 need_cc() { need cc "a C compiler" "install gcc or clang"; }
 need_cargo() { need cargo "Rust's build tool" "install Rust with cargo"; }
 
+# A sum of all that libraries and programs are made from.
+sources() {
+    { rt version; cat crates.txt; find crates -name out -prune -o -type f \( -name '*.rt' -o -name '*.antt' \) -print0 | LC_ALL=C sort -z | xargs -0 cat; } | sha256sum
+}
+
+# is_made FOLDER: whether what lies in the folder was made of the crates as they are
+is_made() { [ "$(cat "$1/sources" 2>/dev/null)" = "$(sources)" ]; }
+
 # Proves and builds what C and Rust link: the fact check and the board's calls for C, in target/staticlib.
 build_libraries() {
-    local library
+    local library sum folder=target/staticlib
+    is_made $folder && return
     say "proving and building the static libraries (some minutes the first time)"
-    mkdir -p target/staticlib || stop "target/staticlib cannot be written: see that there is room."
+    sum=$(sources)
+    mkdir -p $folder || stop "$folder cannot be written: see that there is room."
     for library in factcheck cabi; do
-        { (cd "crates/$library" && rt lib) >/dev/null 2>&1 && cp "crates/$library/out/lib$library.a" target/staticlib; } \
+        { (cd crates/$library && rt lib) >/dev/null 2>&1 && cp crates/$library/out/lib$library.a $folder; } \
             || stop "the static library was not built: run 'rt lib' in crates/$library to see why."
     done
+    printf '%s\n' "$sum" >$folder/sources
 }
 
 # Proves and builds the programs, in target/bin. rt builds a program to run it, here on no input and with no argument.
 build_programs() {
-    local program
+    local program sum folder=target/bin
+    is_made $folder && return
     say "proving and building the programs 'replay' and 'compare' (some ten minutes the first time, at once after that)"
-    mkdir -p target/bin || stop "target/bin cannot be written: see that there is room."
+    sum=$(sources)
+    mkdir -p $folder || stop "$folder cannot be written: see that there is room."
     for program in replay compare; do
-        (cd "crates/$program" && rt run </dev/null) >"target/bin/$program.log" 2>&1
-        { grep -q '^rt: running ' "target/bin/$program.log" && cp "crates/$program/out/$program" target/bin; } \
-            || stop "$program was not proved: target/bin/$program.log says why."
+        (cd crates/$program && rt run </dev/null) >$folder/$program.log 2>&1
+        { grep -q '^rt: running ' $folder/$program.log && cp crates/$program/out/$program $folder; } \
+            || stop "$program was not proved: $folder/$program.log says why."
     done
+    printf '%s\n' "$sum" >$folder/sources
 }
 
 # crates_alone FOLDER: a copy of the crates in which edits are checked. What rt keeps of them is not copied: rt finds it where it is.
