@@ -45,13 +45,13 @@ unfoldable pub started : Settings → Words
 started s k = cond (eqb k horizon_at) s.horizon (cond (eqb k lead_at) s.lead (cond (eqb k cells_at) bias 0))
 
 module _ (s : Settings) where
-  pub at-horizon : started s horizon_at ≡ s.horizon
+  pub at_horizon : started s horizon_at ≡ s.horizon
   unfolding started
-  at-horizon = refl
+  at_horizon = refl
 
-  pub at-lead : started s lead_at ≡ s.lead
+  pub at_lead : started s lead_at ≡ s.lead
   unfolding started
-  at-lead = refl
+  at_lead = refl
 
   pub at_cells : started s cells_at ≡ bias
   unfolding started
@@ -135,13 +135,13 @@ module _ (s : Settings) (w : List ℕ) where
         get_or-set_other headed cells_at k bias 0 c
         ∙ ap (λ (i : ℕ). get_or headed i 0) e
         ∙ get_or-set_same (set x horizon_at s.horizon) lead_at s.lead 0 (omega (arith, long, length-set x horizon_at s.horizon))
-        ∙ sym (ap (started s) e ∙ at-lead s)
+        ∙ sym (ap (started s) e ∙ at_lead s)
     stored_at k (yes e) (no l) (no c) =
         get_or-set_other headed cells_at k bias 0 c
         ∙ get_or-set_other (set x horizon_at s.horizon) lead_at k s.lead 0 l
         ∙ ap (λ (i : ℕ). get_or (set x horizon_at s.horizon) i 0) e
         ∙ get_or-set_same x horizon_at s.horizon 0 (omega (arith, long))
-        ∙ sym (ap (started s) e ∙ at-horizon s)
+        ∙ sym (ap (started s) e ∙ at_horizon s)
     stored_at k (no h) (no l) (no c) =
         get_or-set_other headed cells_at k bias 0 c
         ∙ get_or-set_other (set x horizon_at s.horizon) lead_at k s.lead 0 l
@@ -149,14 +149,14 @@ module _ (s : Settings) (w : List ℕ) where
         ∙ zero_at k
         ∙ sym (elsewhere s k h l c)
 
-    stored-long : length stored ≡ board_size
-    stored-long = length-set headed cells_at bias ∙ length-set (set x horizon_at s.horizon) lead_at s.lead ∙ length-set x horizon_at s.horizon ∙ long
+    stored_long : length stored ≡ board_size
+    stored_long = length-set headed cells_at bias ∙ length-set (set x horizon_at s.horizon) lead_at s.lead ∙ length-set x horizon_at s.horizon ∙ long
 
     pub accepted_words : bad_settings s ≡ false → (Accepted ≡ fresh_ruling s w) × (stored ≡ fresh_words s w)
     unfolding fresh_ruling fresh_words fresh_ruled
     accepted_words good =
         let e = eq-eqb (length w) board_size size in
         let is : stored ≡ build (started s) board_size =
-        sym (build_back stored board_size 0 stored-long)
+        sym (build_back stored board_size 0 stored_long)
         ∙ build_same (λ k. get_or stored k 0) (started s) board_size (λ k h. stored_at k (ℕ_discrete k horizon_at) (ℕ_discrete k lead_at) (ℕ_discrete k cells_at)) in
         (rw (e, good), rw (e, good) (is ∙ sym (fresh_words_lem s)))

@@ -1,5 +1,6 @@
 -- Laws of writing into a buffer at a place. Assumes nothing.
---   placed          what is written into a part of a buffer is written into the buffer there
+--   placed          what is written into the part of a buffer from a place on is written into the buffer there
+--   placed_over     the same, where that part is no longer than what is written
 --   written_none    nothing is written by leaving the buffer as it is
 --   written_start   the same, with the place as the code has it
 --   written_more    two writings, one after the other, are one of both texts, also where there is no room for all
@@ -11,17 +12,33 @@ use native.Mathlib.Omega.{arith}
 use native.Mathlib.Nat.{add_assoc, add-zero}
 use lib.Dec.{leb}
 use borrow.Author.Tests.{leb-true, leb-false}
-use lib.ListN.{length, take, drop, length-append}
-use lib.Seq.{paste, paste-zero, length-paste, take-paste, drop-paste, take-length, take-append-le, take-append-add, drop-drop}
+use lib.ListN.{length, take, drop, length-append, length-drop, drop_of_length-le}
+use lib.Seq.{paste, paste-zero, length-paste, take-paste, drop-paste, take_all, take-length, take-append-le, take-append-add, drop-drop}
 use Rattle.log_text.specs.Written.{Written, fitting, start_at}
 
--- n bytes of s are written into the n places from start on, which are then new
+-- n bytes of s are written into the rest of the buffer, which is then new
 pub placed :
+    (before s new : List ℕ) (at start n : ℕ) → start ≡ min at (length before) → n ≡ min (length s) (length before - start)
+    → new ≡ take n s ++ drop n (take (length before - start) (drop start before))
+    → Written before at s (take start before ++ (new ++ drop (length before - start) (drop start before))) (start + n)
+unfolding fitting start_at
+placed before s new at start n e f q =
+    let all : length (drop start before) ≤ length before - start = rw length-drop (omega arith) in
+    let whole : take (length before - start) (drop start before) ≡ drop start before = take_all (length before - start) (drop start before) all in
+    let none : drop (length before - start) (drop start before) ≡ [] = drop_of_length-le (drop start before) all in
+    let made : new ≡ take n s ++ drop n (drop start before) = q ∙ rw whole in
+    record {
+      place = rw (← e, ← f);
+      bytes = rw (← e, ← f, made, none, drop-drop n start before, append-nil, append_assoc);
+    }
+
+-- n bytes of s are written into the n places from start on, which are then new
+pub placed_over :
     (before s new : List ℕ) (at start n k : ℕ) → start ≡ min at (length before) → n ≡ min (length s) (length before - start)
     → k ≡ n → new ≡ take n s
     → Written before at s (take start before ++ (new ++ drop k (drop start before))) (start + n)
 unfolding fitting start_at
-placed before s new at start n k e f g made =
+placed_over before s new at start n k e f g made =
     record {
       place = rw (← e, ← f);
       bytes = rw (← e, ← f, g, made, drop-drop n start before, append_assoc);

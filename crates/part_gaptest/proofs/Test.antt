@@ -1,8 +1,8 @@
 -- The test of a table says what document 01 asks of it.
 --   none_joined                 how `are_clear` tells that all cells are 0;  clear_part, clear_rest: cells tested part by part
 --   limit_live, limit_rest      the limit of a live column and of the others
---   inRange-row                 each cell of a live row is at most its limit;  inRange-bounded: so sums of live cells are small
---   inRange-rest                every other cell is 0
+--   in_range_row                 each cell of a live row is at most its limit;  in_range_bounded: so sums of live cells are small
+--   in_range_rest                every other cell is 0
 --   good_to, good_of            the test is true exactly where the cells are good;  gap_table_to, gap_table_of: exactly where GapTable holds
 use mathlib.Core.Bool.{true, false, ◌&&◌}
 use mathlib.Core.List.{List}

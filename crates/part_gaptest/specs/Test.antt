@@ -1,6 +1,6 @@
 -- The test that computes whether cells are a good table (`GapTable`, crates/part_gaps).
 --   is_gap_table l n H    the test, made of
---     inRange l n       each cell is within its limit: `row_in_range l n i`, in the row of a live point cell j is at most `limit n j`, twice the
+--     in_range l n       each cell is within its limit: `row_in_range l n i`, in the row of a live point cell j is at most `limit n j`, twice the
 --                       bias where j is live and else 0; `clear l p m`, the m places from p on hold 0, as all cells past those rows do
 --     is_diagonal l n    the diagonal is 0
 --     in_windows l n H   each point lies from 0 to H
