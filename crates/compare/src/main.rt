@@ -75,11 +75,7 @@ fn put_name<R: Env>(rt: &R, out: &mut [u8], k: usize) -> usize {
 
 // ---- the answer
 
-fn write_answer<R: Env + Print + Eprint>(
-    rt: &R,
-    a: &[u32; BOARD_WORDS],
-    b: &[u32; BOARD_WORDS],
-) {
+fn write_answer<R: Env + Print + Eprint>(rt: &R, a: &[u32; BOARD_WORDS], b: &[u32; BOARD_WORDS]) {
     let mut out = [0u8; ROOM];
     let answer = compare(a, b);
     let end = put_answer(rt, &mut out, answer);
