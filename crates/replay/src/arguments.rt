@@ -132,15 +132,15 @@ fn wrong(fault: Fault) -> Arguments {
 
 // Writes what is wrong, and how the program is used. Where that cannot be written there is nobody to tell.
 pub fn write_fault<R: Print>(rt: &R, fault: Fault) {
-    let _ = rt.write_all(why(fault));
+    write_why(rt, fault);
     let _ = rt.write_all(b": use replay [--explain] [--chart] [FILE]\n");
 }
 
-fn why(fault: Fault) -> &'static [u8] {
+fn write_why<R: Print>(rt: &R, fault: Fault) -> bool {
     match fault {
-        Fault::Nothing => b"",
-        Fault::Unknown => b"! 0 there is no such option",
-        Fault::Twice => b"! 0 an option is given twice",
-        Fault::BehindFile => b"! 0 an argument follows the file",
+        Fault::Nothing => true,
+        Fault::Unknown => rt.write_all(b"! 0 there is no such option").is_ok(),
+        Fault::Twice => rt.write_all(b"! 0 an option is given twice").is_ok(),
+        Fault::BehindFile => rt.write_all(b"! 0 an argument follows the file").is_ok(),
     }
 }
