@@ -12,8 +12,5 @@ nothing : (l : List ℕ) (v : ℕ) → length l ≡ 0 → l ≡ set l 0 v
 nothing [] v e = refl
 nothing (x ∷ l) v e = absurd (omega arith)
 
-returns-2 : tie.Need-returns-else-cause-gt0
-returns-2 c = nothing _ _ (omega arith)
-
 pub write_cause_spec : {M : Type 1} → statement M
-write_cause_spec = tie.close (tie.spec (λ c. search rules) (λ c. search rules) (λ c. search rules) returns-2)
+write_cause_spec = tie.close (tie.spec (λ c. search rules) (λ c. search rules) (λ c. search rules) (λ c. nothing _ _ (omega arith)))

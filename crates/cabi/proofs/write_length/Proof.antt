@@ -6,8 +6,9 @@ use borrow.Author.Rules.{rules}
 use Rattle.cabi.proofs.write_length.Statement.{statement}
 use Rattle.cabi.proofs.write_length.Tie as tie
 
-returns-2 : tie.Need-returns-else-written-gt1
-returns-2 c = let entry : tie.Start = search in let A = entry.args in sym (set_out A.written.now 1 A.n (omega arith))
-
 pub write_length_spec : {M : Type 1} → statement M
-write_length_spec = tie.close (tie.spec (λ c. search rules) (λ c. search rules) (λ c. search rules) returns-2)
+write_length_spec =
+    tie.close
+    (tie.spec
+    (λ c. search rules) (λ c. search rules) (λ c. search rules)
+    (λ c. let entry : tie.Start = search in let A = entry.args in sym (set_out A.written.now 1 A.n (omega arith))))

@@ -25,23 +25,22 @@ points-in-requires c κs = let entry : tie.Start = search in
     let sound = sym c.is_sound_in.ensures ∙ not-false _ c.if-not-is_sound_in.false-raw in
     (search rules, (sound_sized b sound).count, sound_few b sound)
 
-returns-3 : tie.Need-returns-then-room-stores
-returns-3 c = let at-is-sound-in : tie.After-is_sound_in = search in let entry : tie.Start = search in let counted : tie.After-points_in-stores = search in
-    let test : tie.Else-not-is_sound_in = search in let whole : tie.Else-w-ne-BOARD_WORDS = search in let A = entry.args in
-    let sound = sym at-is-sound-in.is_sound_in.ensures ∙ not-false _ test.if-not-is_sound_in.false-raw in
-    c.refused-then-room-stores.ensures ∙ asked_short A.w.now A.room whole.if-w-ne-BOARD_WORDS.false sound _ counted.points_in-stores.ensures c.if-room-stores.true
-
 returns-4 : tie.Need-returns
 returns-4 c = let at-is-sound-in : tie.After-is_sound_in = search in let entry : tie.Start = search in
     let counted = c in
     let test : tie.Else-not-is_sound_in = search in
     let whole : tie.Else-w-ne-BOARD_WORDS = search in
     let sound = sym at-is-sound-in.is_sound_in.ensures ∙ not-false _ test.if-not-is_sound_in.false-raw in
-    asked_rows entry.args.w.now entry.args.room whole.if-w-ne-BOARD_WORDS.false sound _ counted.points_in-stores.ensures c.if-room-stores.false
+    asked_rows entry.args.w.now entry.args.room whole.if-w-ne-BOARD_WORDS.false sound _ counted.points_in-stores.ensures (search rules)
 
 pub ask_spec : {M : Type 1} → statement M
 ask_spec =
     tie.close
     (tie.spec
     (λ c κs. search rules) returns (λ c κs. search rules) (λ c κs. search rules) returns-2 points-in-requires (λ c. search rules)
-    (λ c κs. search rules) returns-3 returns-4)
+    (λ c κs. search rules)
+    (λ c. let at-is-sound-in : tie.After-is_sound_in = search in let entry : tie.Start = search in let counted : tie.After-points_in-stores = search in
+    let test : tie.Else-not-is_sound_in = search in let whole : tie.Else-w-ne-BOARD_WORDS = search in let A = entry.args in
+    let sound = sym at-is-sound-in.is_sound_in.ensures ∙ not-false _ test.if-not-is_sound_in.false-raw in
+    c.refused-then-room-stores.ensures ∙ asked_short A.w.now A.room whole.if-w-ne-BOARD_WORDS.false sound _ counted.points_in-stores.ensures (search rules))
+    returns-4)

@@ -75,22 +75,24 @@ points-in-requires c κs = let few : tie.Else-w = search in let entry : tie.Star
     let w = word_in entry.args.w.now in
     (entry.requires.0, few.if-w.false, few_points_lem (w horizon_at) (jobs_of (held_jobs w)) (each c))
 
-returns-4 : tie.Need-returns-then-n
-unfolding clauses_kept
-returns-4 c = let third : tie.Else-not-is_each_sized = search in let few : tie.Else-w = search in let first : tie.Else-not-are_numbers_sized = search in let entry : tie.Start = search in
-    let w = word_in entry.args.w.now in
-    passes (numbers first) (fails _ (too_long (w horizon_at) (held_jobs w) few.if-w.false (each third) (rw c.points_in-n.ensures at c.if-n.true)))
-
 are-others-kept-requires : tie.Need-are_others_kept-requires
 are-others-kept-requires c κs = let third : tie.Else-not-is_each_sized = search in let few : tie.Else-w = search in let first : tie.Else-not-are_numbers_sized = search in
     let entry : tie.Start = search in
     let w = word_in entry.args.w.now in
-    let all = all_sized (w horizon_at) (held_jobs w) few.if-w.false (each third) (rw c.points_in-n.ensures at c.if-n.false) in
+    let within : c.points_in-n.result ≤ most_points = search rules in
+    let all = all_sized (w horizon_at) (held_jobs w) few.if-w.false (each third) (rw c.points_in-n.ensures at within) in
     (entry.requires, (numbers first, all, c.points_in-n.ensures))
 
 pub are_clauses_kept_spec : {M : Type 1} → statement M
+unfolding clauses_kept
 are_clauses_kept_spec =
     tie.close
     (tie.spec
     (λ c κs. search rules) (λ c. search rules) (λ c κs. search rules) returns (λ c. search rules) (λ c. search rules) returns-2
-    (λ c. search rules) (λ c κs. search rules) returns-3 points-in-requires (λ c. search rules) returns-4 are-others-kept-requires (λ c. search rules))
+    (λ c. search rules) (λ c κs. search rules) returns-3 points-in-requires (λ c. search rules)
+    (λ c. let third : tie.Else-not-is_each_sized = search in let few : tie.Else-w = search in let first : tie.Else-not-are_numbers_sized = search in
+    let entry : tie.Start = search in
+    let w = word_in entry.args.w.now in
+    let past : most_points < c.points_in-n.result = search rules in
+    passes (numbers first) (fails _ (too_long (w horizon_at) (held_jobs w) few.if-w.false (each third) (rw c.points_in-n.ensures at past))))
+    are-others-kept-requires (λ c. search rules))

@@ -13,10 +13,13 @@ returns-2 : tie.Need-returns-then-count-lt1
 unfolding offer_ruling
 returns-2 c = simp (le-ltb _ _ c.if-offer-lt-HEADER_SIZE.false, ← c.u32_at-count.ensures, lt-ltb _ _ c.if-count-lt1.true)
 
-returns-3 : tie.Need-returns-then-count-gt8
-unfolding offer_ruling
-returns-3 c = let at-if1 : tie.Else-offer-lt-HEADER_SIZE = search in
-    simp (le-ltb _ _ at-if1.if-offer-lt-HEADER_SIZE.false, ← c.u32_at-count.ensures, le-ltb _ _ c.if-count-lt1.false, lt-ltb _ _ c.if-count-gt8.true)
-
 pub read_offer_spec : {M : Type 1} → statement M
-read_offer_spec = tie.close (tie.spec returns (λ c κs. search rules) returns-2 returns-3 (λ c κs. search rules) (λ c. search rules))
+unfolding offer_ruling
+read_offer_spec =
+    tie.close
+    (tie.spec
+    returns (λ c κs. search rules) returns-2
+    (λ c. let at-if1 : tie.Else-offer-lt-HEADER_SIZE = search in
+    simp
+    (le-ltb _ _ at-if1.if-offer-lt-HEADER_SIZE.false, ← c.u32_at-count.ensures, le-ltb _ _ c.if-count-lt1.false, lt-ltb 8 c.u32_at-count.result (search rules)))
+    (λ c κs. search rules) (λ c. search rules))

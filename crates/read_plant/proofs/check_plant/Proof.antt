@@ -3,20 +3,17 @@ use borrow.Author.Tests.{lt-ltb, not-true, not-false}
 use Rattle.read_plant.specs.Plant.{plant_ruling}
 use Rattle.read_plant.proofs.Good.{unmarked, bad_layout_lem, on_to_records, layout_right}
 use mathlib.Core.Path.{sym, ◌∙◌}
+use lib.ListN.{length}
 use borrow.Author.Rules.{rules}
 use Rattle.read_plant.proofs.check_plant.Statement.{statement}
 use Rattle.read_plant.proofs.check_plant.Tie as tie
 
-returns : tie.Need-returns-then-s-lt12
-unfolding plant_ruling
-returns c = simp (lt-ltb _ _ c.if-s-lt12.true)
-
 returns-2 : tie.Need-returns-then-not-is_marked
-returns-2 c = unmarked _ _ c.if-s-lt12.false c.is_marked.ensures (not-true _ c.if-not-is_marked.true-raw)
+returns-2 c = unmarked _ _ (search rules) c.is_marked.ensures (not-true _ c.if-not-is_marked.true-raw)
 
 returns-3 : tie.Need-returns-then-is_bad_layout
-returns-3 c = let at-if2 : tie.Else-not-is_marked = search in let at-is-marked : tie.After-is_marked = search in let at-if1 : tie.Else-s-lt12 = search in
-    bad_layout_lem _ _ _ at-if1.if-s-lt12.false at-is-marked.is_marked.ensures c.read_trailer-t.ensures.0 (not-false _ at-if2.if-not-is_marked.false-raw)
+returns-3 c = let at-if2 : tie.Else-not-is_marked = search in let at-is-marked : tie.After-is_marked = search in
+    bad_layout_lem _ _ _ (search rules) at-is-marked.is_marked.ensures c.read_trailer-t.ensures.0 (not-false _ at-if2.if-not-is_marked.false-raw)
     (sym c.is_bad_layout.ensures ∙ c.if-is_bad_layout.true)
 
 read-records-requires : tie.Need-read_records-requires
@@ -26,13 +23,13 @@ read-records-requires c κs = let right = layout_right _ _ (sym c.is_bad_layout.
 returns-4 : tie.Need-returns
 returns-4 c =
     let at-read-trailer : tie.After-read_trailer-t = search in let at-if2 : tie.Else-not-is_marked = search in let at-is-marked : tie.After-is_marked = search in
-    let at-if1 : tie.Else-s-lt12 = search in
-    c.read_records.ensures ∙ on_to_records _ _ _ at-if1.if-s-lt12.false at-is-marked.is_marked.ensures at-read-trailer.read_trailer-t.ensures.0
+    c.read_records.ensures ∙ on_to_records _ _ _ (search rules) at-is-marked.is_marked.ensures at-read-trailer.read_trailer-t.ensures.0
     (not-false _ at-if2.if-not-is_marked.false-raw) (sym c.is_bad_layout.ensures ∙ c.if-is_bad_layout.false)
 
 pub check_plant_spec : {M : Type 1} → statement M
+unfolding plant_ruling
 check_plant_spec =
     tie.close
     (tie.spec
-    returns (λ c. search rules) (λ c κs. search rules) returns-2 (λ c κs. search rules) (λ c κs. search rules) returns-3 read-records-requires
+    (λ c. let entry : tie.Start = search in simp (lt-ltb (length entry.args.s.now) 12 (search rules))) (λ c. search rules) (λ c κs. search rules) returns-2 (λ c κs. search rules) (λ c κs. search rules) returns-3 read-records-requires
     returns-4)

@@ -19,14 +19,15 @@ one_test short long less h most e = rw (le-ltb 1000000 long most) (go (ltb short
     go false p true q = let some = ltb-false short 1 p in let under = ltb-true long short q in le-leb long less (omega (arith, some, under))
     go false p false q = let some = ltb-false short 1 p in let order = ltb-false long short q in lt-leb long less (omega (arith, some, order))
 
-returns : tie.Need-returns-then-long-gt1000000
-unfolding bad_duration
-returns c = let entry : tie.Start = search in let short = entry.args.short in let long = entry.args.long in
-    rw (lt-ltb 1000000 long c.if-long-gt1000000.true, or-true (ltb long short), or-true (ltb short 1))
-
 returns-2 : tie.Need-returns
-returns-2 c = let entry : tie.Start = search in let no : tie.Else-long-gt1000000 = search in
-    one_test entry.args.short entry.args.long c.one_less.result (search rules) no.if-long-gt1000000.false c.one_less.ensures
+returns-2 c = let entry : tie.Start = search in
+    one_test entry.args.short entry.args.long c.one_less.result (search rules) (search rules) c.one_less.ensures
 
 pub is_bad_duration_spec : {M : Type 1} → statement M
-is_bad_duration_spec = tie.close (tie.spec returns (λ c κs. search rules) returns-2)
+unfolding bad_duration
+is_bad_duration_spec =
+    tie.close
+    (tie.spec
+    (λ c. let entry : tie.Start = search in let short = entry.args.short in let long = entry.args.long in
+    rw (lt-ltb 1000000 long (search rules), or-true (ltb long short), or-true (ltb short 1)))
+    (λ c κs. search rules) returns-2)

@@ -42,21 +42,6 @@ size :
 size c = let read : tie.After-read_allocation-allocation = search in let entry : tie.Start = search in
     c.number_in-number.ensures entry.args.first ∙ ap (λ (y : Allocation). length (line_for (lines_then entry) y)) read.read_allocation-allocation.ensures
 
-returns : tie.Need-returns-then-number-place
-returns c = let numbered : tie.After-number_in-number = search in let read : tie.After-read_allocation-allocation = search in let entry : tie.Start = search in
-    let A = entry.args in
-    let place = ap (λ (y : Allocation). y.place) read.read_allocation-allocation.ensures in
-    turn_stops A.settings A.first A.k (this entry) (lines_then entry) c.stopped.result (cause 15 A.k) c.stopped.ensures
-    (λ rs. placed_far A.settings A.first A.k (this entry) [] (lines_then entry) rs _ refl (omega (arith, size numbered, place)))
-
-returns-2 : tie.Need-returns-then-number-ge-MOST_USES
-returns-2 c = let numbered : tie.After-number_in-number = search in let read : tie.After-read_allocation-allocation = search in let entry : tie.Start = search in
-    let A = entry.args in
-    let few = size numbered in
-    let place = ap (λ (y : Allocation). y.place) read.read_allocation-allocation.ensures in
-    turn_stops A.settings A.first A.k (this entry) (lines_then entry) c.stopped-then-number-ge-MOST_USES.result (cause 16 A.k) c.stopped-then-number-ge-MOST_USES.ensures
-    (λ rs. placed_full A.settings A.first A.k (this entry) [] (lines_then entry) rs _ refl (omega (arith, few, place)) (omega (arith, few)))
-
 rule-before-requires : tie.Need-rule_before-before-requires
 rule-before-requires c κs = let numbered : tie.After-number_in-number = search in let read : tie.After-read_allocation-allocation = search in
     let entry : tie.Start = search in let p = entry.requires in
@@ -88,5 +73,17 @@ pub place_one_spec : {M : Type 1} → statement M
 place_one_spec =
     tie.close
     (tie.spec
-    read-allocation-requires (λ c. search rules) number-in-requires (λ c. omega arith) (λ c κs. search rules) returns (λ c. omega arith)
-    (λ c κs. search rules) returns-2 rule-before-requires rule-after-requires returns-3)
+    read-allocation-requires (λ c. search rules) number-in-requires (λ c. omega arith) (λ c κs. search rules)
+    (λ c. let numbered : tie.After-number_in-number = search in let read : tie.After-read_allocation-allocation = search in let entry : tie.Start = search in
+    let A = entry.args in
+    let place = ap (λ (y : Allocation). y.place) read.read_allocation-allocation.ensures in
+    turn_stops A.settings A.first A.k (this entry) (lines_then entry) _ (cause 15 A.k) (search rules)
+    (λ rs. placed_far A.settings A.first A.k (this entry) [] (lines_then entry) rs _ refl (omega (arith, size numbered, place))))
+    (λ c. omega arith) (λ c κs. search rules)
+    (λ c. let numbered : tie.After-number_in-number = search in let read : tie.After-read_allocation-allocation = search in let entry : tie.Start = search in
+    let A = entry.args in
+    let few = size numbered in
+    let place = ap (λ (y : Allocation). y.place) read.read_allocation-allocation.ensures in
+    turn_stops A.settings A.first A.k (this entry) (lines_then entry) _ (cause 16 A.k) (search rules)
+    (λ rs. placed_full A.settings A.first A.k (this entry) [] (lines_then entry) rs _ refl (omega (arith, few, place)) (omega (arith, few))))
+    rule-before-requires rule-after-requires returns-3)

@@ -8,14 +8,12 @@ use borrow.Author.Rules.{rules}
 use Rattle.part_lines.proofs.rulelist.due_rule.Statement.{statement}
 use Rattle.part_lines.proofs.rulelist.due_rule.Tie as tie
 
-returns : tie.Need-returns-then-due-eq0
-returns c = let entry : tie.Start = search in let A = entry.args in
-    c.no_rule.ensures ∙ ap maybe_from (due_none A.due A.last c.if-due-eq0.true)
-
-returns-2 : tie.Need-returns
-returns-2 c = let made : tie.After-not_after = search in let tested : tie.Else-due-eq0 = search in let entry : tie.Start = search in let A = entry.args in
-    c.one_rule.ensures
-    ∙ ap (λ (r : Rule). maybe_from (r ∷ [])) made.not_after.ensures ∙ ap maybe_from (due_some A.due A.last tested.if-due-eq0.false)
-
 pub due_rule_spec : {M : Type 1} → statement M
-due_rule_spec = tie.close (tie.spec (λ c κs. search rules) returns (λ c κs. search rules) (λ c κs. search rules) returns-2)
+due_rule_spec =
+    tie.close
+    (tie.spec
+    (λ c κs. search rules)
+    (λ c. let entry : tie.Start = search in let A = entry.args in c.no_rule.ensures ∙ ap maybe_from (due_none A.due A.last (search rules)))
+    (λ c κs. search rules) (λ c κs. search rules)
+    (λ c. let made : tie.After-not_after = search in let entry : tie.Start = search in let A = entry.args in
+    c.one_rule.ensures ∙ ap (λ (r : Rule). maybe_from (r ∷ [])) made.not_after.ensures ∙ ap maybe_from (due_some A.due A.last (search rules))))
