@@ -6,6 +6,8 @@ use mathlib.Core.Path.{sym, ◌∙◌}
 use lib.ListN.{length}
 use borrow.Author.Rules.{rules}
 use Rattle.read_plant.proofs.check_plant.Statement.{statement}
+use Rattle.read_plant.proofs.check_plant.Lts as lts
+use Rattle.read_plant.proofs.check_plant.Reads as reads
 use Rattle.read_plant.proofs.check_plant.Tie as tie
 
 returns-2 : tie.Need-returns-then-not-is_marked
@@ -26,10 +28,12 @@ returns-4 c =
     c.read_records.ensures ∙ on_to_records _ _ _ (search rules) at-is-marked.is_marked.ensures at-read-trailer.read_trailer-t.ensures.0
     (not-false _ at-if2.if-not-is_marked.false-raw) (sym c.is_bad_layout.ensures ∙ c.if-is_bad_layout.false)
 
-pub check_plant_spec : {M : Type 1} → statement M
+shown : {M : Type 1} → lts.Closed tie.the-claims reads.Pre reads.Post M
 unfolding plant_ruling
-check_plant_spec =
-    tie.close
-    (tie.spec
+shown =
+    tie.spec
     (λ c. let entry : tie.Start = search in simp (lt-ltb (length entry.args.s.now) 12 (search rules))) (λ c. search rules) (λ c κs. search rules) returns-2 (λ c κs. search rules) (λ c κs. search rules) returns-3 read-records-requires
-    returns-4)
+    returns-4
+
+pub check_plant_spec : {M : Type 1} → statement M
+check_plant_spec = tie.close shown

@@ -8,6 +8,8 @@ use borrow.Author.Rules.{rules}
 use borrow.Author.Tests.{lt-ltb, le-ltb, le-leb, lt-leb, ltb-true, ltb-false}
 use Rattle.read_plant.specs.Plant.{bad_duration}
 use Rattle.read_plant.proofs.is_bad_duration.Statement.{statement}
+use Rattle.read_plant.proofs.is_bad_duration.Lts as lts
+use Rattle.read_plant.proofs.is_bad_duration.Reads as reads
 use Rattle.read_plant.proofs.is_bad_duration.Tie as tie
 
 one_test : (short long less : ℕ) → short < 2 ^ 32 → long ≤ 1000000 → less ≡ (short + 4294967295) % 4294967296 → leb long less ≡ bad_duration short long
@@ -23,11 +25,13 @@ returns-2 : tie.Need-returns
 returns-2 c = let entry : tie.Start = search in
     one_test entry.args.short entry.args.long c.one_less.result (search rules) (search rules) c.one_less.ensures
 
-pub is_bad_duration_spec : {M : Type 1} → statement M
+shown : {M : Type 1} → lts.Closed tie.the-claims reads.Pre reads.Post M
 unfolding bad_duration
-is_bad_duration_spec =
-    tie.close
-    (tie.spec
+shown =
+    tie.spec
     (λ c. let entry : tie.Start = search in let short = entry.args.short in let long = entry.args.long in
     rw (lt-ltb 1000000 long (search rules), or-true (ltb long short), or-true (ltb short 1)))
-    (λ c κs. search rules) returns-2)
+    (λ c κs. search rules) returns-2
+
+pub is_bad_duration_spec : {M : Type 1} → statement M
+is_bad_duration_spec = tie.close shown

@@ -18,6 +18,8 @@ use Rattle.part_boardwords.specs.Words.{lines_in}
 use Rattle.part_allocations.proofs.Read.{read_less}
 use Rattle.part_drafts.proofs.PlaceLaws.{placed_far, placed_full, turn_stops, turn_goes}
 use Rattle.part_drafts.proofs.placing.place_one.Statement.{statement}
+use Rattle.part_drafts.proofs.placing.place_one.Lts as lts
+use Rattle.part_drafts.proofs.placing.place_one.Reads as reads
 use Rattle.part_drafts.proofs.placing.place_one.Tie as tie
 
 read-allocation-requires : tie.Need-read_allocation-allocation-requires
@@ -69,10 +71,9 @@ returns-3 c = let numbered : tie.After-number_in-number = search in let read : t
     (c.rule_after-after.ensures
     ∙ ap (λ (y : Allocation). maybe_from (rule_after A.settings (line_for ls y) y.place (used_from A.first y))) is)
 
-pub place_one_spec : {M : Type 1} → statement M
-place_one_spec =
-    tie.close
-    (tie.spec
+shown : {M : Type 1} → lts.Closed tie.the-claims reads.Pre reads.Post M
+shown =
+    tie.spec
     read-allocation-requires (λ c. search rules) number-in-requires (λ c. omega arith) (λ c κs. search rules)
     (λ c. let numbered : tie.After-number_in-number = search in let read : tie.After-read_allocation-allocation = search in let entry : tie.Start = search in
     let A = entry.args in
@@ -86,4 +87,7 @@ place_one_spec =
     let place = ap (λ (y : Allocation). y.place) read.read_allocation-allocation.ensures in
     turn_stops A.settings A.first A.k (this entry) (lines_then entry) _ (cause 16 A.k) (search rules)
     (λ rs. placed_full A.settings A.first A.k (this entry) [] (lines_then entry) rs _ refl (omega (arith, few, place)) (omega (arith, few))))
-    rule-before-requires rule-after-requires returns-3)
+    rule-before-requires rule-after-requires returns-3
+
+pub place_one_spec : {M : Type 1} → statement M
+place_one_spec = tie.close shown
