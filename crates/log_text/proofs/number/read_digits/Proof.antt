@@ -30,10 +30,6 @@ add-value : tie.Need-overflow_add-value invariant_loop decreases_loop
 add-value c = let at-loop : tie.At-loop-i invariant_loop decreases_loop = search in
     omega (arith, c.shared_slice_known-in-loop-i-2-1.given at-loop.loop-i.i)
 
-returns-2 : tie.Need-returns-then-value-gt4294967295 invariant_loop decreases_loop
-returns-2 c = let at-loop : tie.At-loop-i invariant_loop decreases_loop = search in let entry : tie.Start invariant_loop decreases_loop = search in
-    too_large entry.args.s.now (at-loop.loop-i.i + 1) (omega arith) (omega (arith, value_more entry.args.s.now at-loop.loop-i.i))
-
 loop-again : tie.Need-loop-i-preserved invariant_loop decreases_loop
 loop-again c = let at-if1 : tie.Else-not-is_digit invariant_loop decreases_loop = search in let at-is-digit : tie.After-is_digit invariant_loop decreases_loop = search in
     let at-loop : tie.At-loop-i invariant_loop decreases_loop = search in let entry : tie.Start invariant_loop decreases_loop = search in
@@ -55,5 +51,7 @@ pub read_digits_spec : {M : Type 1} → statement M
 read_digits_spec =
     tie.close
     (tie.spec
-    invariant_loop decreases_loop loop-holds (λ c. omega arith) (λ c κs. tt) returns (λ c. omega arith) (λ c. omega arith) (λ c κs. tt) add-value returns-2
+    invariant_loop decreases_loop loop-holds (λ c. omega arith) (λ c κs. tt) returns (λ c. omega arith) (λ c. omega arith) (λ c κs. tt) add-value
+    (λ c. let at-loop : tie.At-loop-i invariant_loop decreases_loop = search in let entry : tie.Start invariant_loop decreases_loop = search in
+    too_large entry.args.s.now (at-loop.loop-i.i + 1) (omega arith) (omega (arith, value_more entry.args.s.now at-loop.loop-i.i)))
     (λ c. omega arith) (λ c. omega arith) loop-again (λ c. omega arith) returns-3)
