@@ -2,13 +2,14 @@
 --   all_below_none, all_below_next   no turn yet; one turn more, from the flag and the test made in it
 --   all_below_to, all_below_of       what the flag says of each place, and the other way
 --   all_below_passes, all_below_fails   where a failed test ends the loop: one turn more, and a test that fails
---   all_below_part, all_below_rest   the tests of m places from p on, kept by a flag of their own: where they fail, and where those before passed
+--   all_below_split, all_below_blocks   the tests of a first part and of the rest; the tests of m parts of b places each
+--   bool_same                      two flags that say the same
 --   all_below_same                  the same test at each place;  all_below_both: two tests at each
 --   all_below_live                  only the places below n are tested
---   both_true                      what two flags joined say;  pair_fails: of two places
+--   both_true                      what two flags joined say
 use mathlib.Core.Bool.{Bool, true, false, false≢true, ◌&&◌, ◌||◌}
-use mathlib.Core.Path.{◌≡◌, refl, sym, ◌∙◌, ap₂}
-use Prim.Native.Nat.{ℕ, zero, suc, ◌+◌, ◌-◌, ◌≤◌, ◌<◌}
+use mathlib.Core.Path.{◌≡◌, refl, sym, ◌∙◌, ap, ap₂}
+use Prim.Native.Nat.{ℕ, zero, suc, ◌+◌, ◌*◌, ◌≤◌, ◌<◌}
 use native.Mathlib.Decide.{dec_lt}
 use native.Mathlib.Numerals.{add-one}
 use native.Mathlib.Omega.{arith}
@@ -56,25 +57,34 @@ fails f n b failed passed = go (all_below f n) refl
 pub all_below_fails : (f : ℕ → Bool) (n k : ℕ) → k < n → f k ≡ false → false ≡ all_below f n
 all_below_fails f n k l failed = fails f n (f k) failed (λ e. all_below_to f n e k l)
 
-pub pair_fails : (f : ℕ → Bool) (n j k : ℕ) → j < n → k < n → (f j && f k) ≡ false → false ≡ all_below f n
-pair_fails f n j k l m failed = fails f n (f j && f k) failed (λ e. rw (all_below_to f n e j l, all_below_to f n e k m))
+pub all_below_split : (f : ℕ → Bool) (p m : ℕ) → all_below f (p + m) ≡ (all_below f p && all_below (λ k. f (p + k)) m)
+unfolding all_below
+all_below_split f p zero = ap (all_below f) {x = p + 0} {y = p} (omega arith) ∙ and_true (all_below f p)
+  where
+    and_true : (a : Bool) → a ≡ (a && true)
+    and_true true = refl
+    and_true false = refl
+all_below_split f p (suc m) =
+    ap (all_below f) {x = p + suc m} {y = suc (p + m)} (omega arith)
+    ∙ ap (λ (b : Bool). b && f (p + m)) (all_below_split f p m)
+    ∙ regroup (all_below f p) (all_below (λ k. f (p + k)) m) (f (p + m))
+  where
+    regroup : (a b c : Bool) → ((a && b) && c) ≡ (a && (b && c))
+    regroup true b c = refl
+    regroup false b c = refl
 
-module _ (f g : ℕ → Bool) (p m : ℕ) (same : (k : ℕ) → k < m → g k ≡ f (p + k)) where
-  pub all_below_part : (n : ℕ) → p + m ≤ n → all_below g m ≡ false → false ≡ all_below f n
-  all_below_part n l failed = fails f n (all_below g m) failed (λ e. all_below_of g m (λ k h. same k h ∙ all_below_to f n e (p + k) (omega arith)))
+pub all_below_blocks : (f : ℕ → Bool) (b m : ℕ) → all_below (λ p. all_below (λ k. f (p * b + k)) b) m ≡ all_below f (m * b)
+unfolding all_below
+all_below_blocks f b zero = ap (all_below f) {x = 0} {y = 0 * b} (omega arith)
+all_below_blocks f b (suc m) =
+    ap (λ (a : Bool). a && all_below (λ k. f (m * b + k)) b) (all_below_blocks f b m)
+    ∙ sym (all_below_split f (m * b) b)
+    ∙ ap (all_below f) {x = m * b + b} {y = suc m * b} (omega arith)
 
-  pub all_below_rest : (n : ℕ) → p + m ≡ n → all_below f p ≡ true → all_below g m ≡ all_below f n
-  all_below_rest n is before = go (all_below g m) refl
-    where
-      at : all_below g m ≡ true → (k : ℕ) → k < n → Dec (k < p) → f k ≡ true
-      at e k l (yes h) = all_below_to f p before k h
-      at e k l (no h) =
-          let here : p + (k - p) ≡ k = omega arith in
-          rw (← here) (sym (same (k - p) (omega arith)) ∙ all_below_to g m e (k - p) (omega arith))
-
-      go : (all : Bool) → all_below g m ≡ all → all ≡ all_below f n
-      go true e = sym (all_below_of f n (λ k l. at e k l (dec_lt k p)))
-      go false e = all_below_part n (omega arith) e
+pub bool_same : (a b : Bool) → (a ≡ true → b ≡ true) → (b ≡ true → a ≡ true) → a ≡ b
+bool_same true b f g = sym (f refl)
+bool_same false true f g = g refl
+bool_same false false f g = refl
 
 pub all_below_same : (f g : ℕ → Bool) (n : ℕ) → ((k : ℕ) → k < n → f k ≡ g k) → all_below f n ≡ all_below g n
 unfolding all_below

@@ -3,6 +3,7 @@
 -- with `done`.
 --   rewritten_length, _in, _below, _from   the elements: f from p on and before q, those of l below p and from q on
 --   rewritten_is                        the list that has these elements is the rewritten one
+--   rewritten_same                      another f that gives the same from p on and before q
 --   rewritten_none                      nothing is written yet
 --   rewritten_more                      a list m that was written to before q, and x, which is m but for f from q on and before r
 --   store, ahead, done                  of a list m that is known to be a rewritten one, as a loop's invariant says
@@ -58,6 +59,12 @@ rewritten_is f l m p q e inside below from =
     go k h (yes lt) d = below k lt ∙ sym (rewritten_below f l p q k lt)
     go k h (no ge) (yes lt) = inside k (omega arith) lt h ∙ sym (rewritten_in f l p q k (omega arith) lt h)
     go k h (no ge) (no past) = from k (omega arith) ∙ sym (rewritten_from f l p q k (omega arith))
+
+pub rewritten_same :
+    (f g : ℕ → ℕ) (l : List ℕ) (p q : ℕ) → ((k : ℕ) → p ≤ k → k < q → f k ≡ g k) → rewritten f l p q ≡ rewritten g l p q
+rewritten_same f g l p q same =
+    rewritten_is g l (rewritten f l p q) p q (rewritten_length f l p q) (λ k lo hi h. rewritten_in f l p q k lo hi h ∙ same k lo hi)
+    (rewritten_below f l p q) (rewritten_from f l p q)
 
 pub rewritten_none : (f : ℕ → ℕ) (l : List ℕ) (p q : ℕ) → q ≤ p → l ≡ rewritten f l p q
 rewritten_none f l p q e = rewritten_is f l l p q refl (λ k lo hi h. absurd (omega arith)) (λ k h. refl) (λ k h. refl)

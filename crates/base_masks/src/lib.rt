@@ -27,8 +27,9 @@ pub fn difference(a: u32, b: u32) -> u32
 }
 
 // The lowest fact, and 32 where there is none.
+// Stays: the definition `lowest` gives 32 there, as the processor does; its one caller has tested that there is a fact.
 pub fn first(a: u32) -> u32
     ensures { result ≡ lowest a }
 {
-    u32::trailing_zeros(a)
+    a.trailing_zeros()
 }

@@ -2,7 +2,8 @@
 --   answer_refused          document 01's number and value are what a refusal was made of
 --   refused_no, fails_no    a refusal is no acceptance; a record that fails does not end
 --   passed, both_passed     what an accepted check says of its parts
---   neither, last_of_or, last_of_and   tests made one after the other
+--   passed_err, passed_ok   what `passed` answers says what was ruled
+--   neither, last_of_or     tests made one after the other
 --   first_none, first_next, first_ends, first_stops, first_all, first_same   the first refusal, check by check
 --   reading_stops, reading_goes_on     a reading record by record: the first that fails decides
 use Prim.Native.Nat.{ℕ, zero, suc, ◌+◌, ◌<◌}
@@ -10,17 +11,16 @@ use native.Mathlib.Omega.{arith}
 use native.Mathlib.Numerals.{add-one}
 use mathlib.Core.Path.{◌≡◌, refl, sym, ap, ap₂, subst, ◌∙◌}
 use mathlib.Core.List.{[], ◌∷◌}
-use mathlib.Core.Bool.{Bool, true, false, true≢false, cond, ◌&&◌, ◌||◌}
+use mathlib.Core.Bool.{Bool, true, false, true≢false, cond, ◌||◌}
 use lib.Dec.{eqb}
 use borrow.Author.Tests.{eqb-true, eqb-false}
 use Rattle.base_rulings.specs.declared.Cause.{Cause}
 use Rattle.base_rulings.specs.declared.Cause.TheVariants.{Plain, Action, Step, Fact, Allocation}
 use Rattle.base_rulings.specs.declared.Ruling.{Ruling}
 use Rattle.base_rulings.specs.declared.Ruling.TheVariants.{Accepted, Refused}
-use Rattle.base_rulings.specs.declared.Record.{Record}
-use Rattle.base_rulings.specs.declared.Record.TheVariants.{Ends, Fails}
+use Rattle.std.specs.Prelude.{⊤, Result, Ok, Err}
 use Rattle.base_rulings.specs.Answer.{answer, refused, has_value}
-use Rattle.base_rulings.specs.Order.{and_then, first_refusal, refusal_of}
+use Rattle.base_rulings.specs.Order.{and_then, first_refusal, refusal_of, passed_as}
 
 -- document 01's number and values are what the cause was made of
 pub answer_refused : (n v : ℕ) → answer (refused n v) ≡ cond (has_value n) (n ∷ v ∷ []) (n ∷ [])
@@ -39,13 +39,22 @@ answer_refused n v = go (eqb n 3 || eqb n 4) (eqb n 8 || (eqb n 11 || eqb n 12))
 pub refused_no : (c : Cause) → Refused c ≡ Accepted → ⊥
 refused_no c e = let z : ◌≡◌ {A = ℕ} 0 1 = cc in omega arith
 
-pub fails_no : (c : Cause) (e : ℕ) → Fails c ≡ Ends e → ⊥
+pub fails_no : (c : Cause) (e : ℕ) → ◌≡◌ {A = Result ℕ Cause} (Err c) (Ok e) → ⊥
 fails_no c e p = let z : ◌≡◌ {A = ℕ} 0 1 = cc in omega arith
 
 -- a check that is passed
 pub passed : (x : Bool) (c : Cause) (r : Ruling) → cond x (Refused c) r ≡ Accepted → (x ≡ false) × (r ≡ Accepted)
 passed true c r e = absurd (refused_no c e)
 passed false c r e = (refl, e)
+
+-- what was passed on as an answer
+pub passed_err : (r : Ruling) (c : Cause) → passed_as r ≡ Err c → r ≡ Refused c
+passed_err Accepted c e = absurd (let z : ◌≡◌ {A = ℕ} 0 1 = cc in omega arith)
+passed_err (Refused d) c e = cc
+
+pub passed_ok : (r : Ruling) (u : ⊤) → passed_as r ≡ Ok u → r ≡ Accepted
+passed_ok Accepted u e = refl
+passed_ok (Refused d) u e = absurd (let z : ◌≡◌ {A = ℕ} 0 1 = cc in omega arith)
 
 -- none of several tests holds
 pub neither : (x y : Bool) → (x || y) ≡ false → (x ≡ false) × (y ≡ false)
@@ -55,9 +64,6 @@ neither false y e = (refl, e)
 -- the last of four tests decides where the others do not
 pub last_of_or : (x y z w : Bool) → x ≡ false → y ≡ false → z ≡ false → w ≡ (x || (y || (z || w)))
 last_of_or x y z w p q r = rw (p, q, r)
-
-pub last_of_and : (x y z w : Bool) → x ≡ true → y ≡ true → z ≡ true → w ≡ (x && (y && (z && w)))
-last_of_and x y z w p q r = rw (p, q, r)
 
 -- both of two checks are passed
 pub both_passed : (r next : Ruling) → and_then r next ≡ Accepted → (r ≡ Accepted) × (next ≡ Accepted)
@@ -108,9 +114,9 @@ first_same f g (suc n) e = ap₂ and_then (first_same f g n (λ k h. e k (omega 
 
 -- ---- a reading record by record: x is what reading record k finds, and f k is the ruling on it
 
-module _ (f : ℕ → Ruling) (k : ℕ) (x : Record) (before : first_refusal f k ≡ Accepted) (here : refusal_of x ≡ f k) where
-  pub reading_stops : (c : Cause) (n : ℕ) → x ≡ Fails c → k < n → first_refusal f n ≡ Refused c
+module _ (f : ℕ → Ruling) (k : ℕ) (x : Result ℕ Cause) (before : first_refusal f k ≡ Accepted) (here : refusal_of x ≡ f k) where
+  pub reading_stops : (c : Cause) (n : ℕ) → x ≡ Err c → k < n → first_refusal f n ≡ Refused c
   reading_stops c n e l = first_stops f k n c before (sym here ∙ ap refusal_of e) l
 
-  pub reading_goes_on : (end : ℕ) → x ≡ Ends end → first_refusal f (k + 1) ≡ Accepted
+  pub reading_goes_on : (end : ℕ) → x ≡ Ok end → first_refusal f (k + 1) ≡ Accepted
   reading_goes_on end e = first_next f k before (sym here ∙ ap refusal_of e)

@@ -1,13 +1,15 @@
 // A ruling is accepted, or refused with a cause: what every call answers, and the number and value that document 01 gives to each cause.
+// What reads a part of a file or of an offer answers a `Result` with a cause for its error, so that `?` leaves with the first cause there is.
 // It may use no other crate.
 #![tactic(auto)]
 
-ghost use Rattle.std.specs.Prelude.{◌≡◌};
+ghost use Rattle.std.specs.Prelude.{◌≡◌, Some, None, cond};
 ghost use Rattle.base_rulings.specs.Answer.{number_of, is_valued, value_of};
 ghost use Rattle.base_rulings.specs.Order.{refusal_of};
 
 // A refusal's number, with the action, step, fact or allocation that it speaks of.
-#[derive(Clone, Copy)]
+// Stays: document 01 names the form, a cause of five cases; the number in each is document 01's own.
+#[derive(Clone, Copy, Debug, PartialEq, Eq)]
 pub enum Cause {
     Plain(u32),
     Action(u32, u32),
@@ -16,73 +18,55 @@ pub enum Cause {
     Allocation(u32, u32),
 }
 
-#[derive(Clone, Copy)]
+// Stays: document 01 names the form, a refused case that holds a cause.
+#[derive(Clone, Copy, Debug, PartialEq, Eq)]
 pub enum Ruling {
     Accepted,
     Refused(Cause),
 }
 
-// What reading one record of a file finds: where it ends, or the cause that ends the reading.
-#[derive(Clone, Copy)]
-pub enum Record {
-    Ends(usize),
-    Fails(Cause),
-}
+impl Ruling {
+    // 0 where accepted, and the number of the cause where refused.
+    pub fn number(self) -> u32
+        ensures { result ≡ number_of self }
+    {
+        match self {
+            Ruling::Accepted => 0,
+            Ruling::Refused(
+                Cause::Plain(n)
+                | Cause::Action(n, _)
+                | Cause::Step(n, _)
+                | Cause::Fact(n, _)
+                | Cause::Allocation(n, _),
+            ) => n,
+        }
+    }
 
-// 0 where accepted, and the number of the cause where refused.
-pub fn number(r: Ruling) -> u32
-    ensures { result ≡ number_of r }
-{
-    match r {
-        Ruling::Accepted => 0,
-        Ruling::Refused(c) => match c {
-            Cause::Plain(n) => n,
-            Cause::Action(n, _) => n,
-            Cause::Step(n, _) => n,
-            Cause::Fact(n, _) => n,
-            Cause::Allocation(n, _) => n,
-        },
+    // The action, step, fact or allocation that the cause speaks of, if there is one.
+    pub fn value(self) -> Option<u32>
+        ensures { result ≡ cond (is_valued self) (Some (value_of self)) None }
+    {
+        match self {
+            Ruling::Accepted => None,
+            Ruling::Refused(Cause::Plain(_)) => None,
+            Ruling::Refused(
+                Cause::Action(_, v)
+                | Cause::Step(_, v)
+                | Cause::Fact(_, v)
+                | Cause::Allocation(_, v),
+            ) => Some(v),
+        }
     }
 }
 
-// Whether the cause has a value: an action, a step, a fact or an allocation.
-pub fn is_valued(r: Ruling) -> bool
-    ensures { result ≡ is_valued r }
-{
-    match r {
-        Ruling::Accepted => false,
-        Ruling::Refused(c) => match c {
-            Cause::Plain(_) => false,
-            Cause::Action(_, _) => true,
-            Cause::Step(_, _) => true,
-            Cause::Fact(_, _) => true,
-            Cause::Allocation(_, _) => true,
-        },
-    }
-}
+// The ruling on what was read: its cause, or accepted where there is none.
+impl<T: Copy> From<Result<T, Cause>> for Ruling {
+    ghost from_gives = { λ r q. q ≡ refusal_of r };
 
-// That value, and 0 where there is none.
-pub fn value(r: Ruling) -> u32
-    ensures { result ≡ value_of r }
-{
-    match r {
-        Ruling::Accepted => 0,
-        Ruling::Refused(c) => match c {
-            Cause::Plain(_) => 0,
-            Cause::Action(_, v) => v,
-            Cause::Step(_, v) => v,
-            Cause::Fact(_, v) => v,
-            Cause::Allocation(_, v) => v,
-        },
-    }
-}
-
-// The refusal that a record's reading ended with.
-pub fn refusal(x: Record) -> Ruling
-    ensures { result ≡ refusal_of x }
-{
-    match x {
-        Record::Ends(_) => Ruling::Accepted,
-        Record::Fails(c) => Ruling::Refused(c),
+    fn from(read: Result<T, Cause>) -> Ruling {
+        match read {
+            Ok(_) => Ruling::Accepted,
+            Err(cause) => Ruling::Refused(cause),
+        }
     }
 }

@@ -10,7 +10,7 @@ ghost use Rattle.call_board.specs.InWords.{words_after, fresh_ruling, fresh_word
 ghost use Rattle.call_report.specs.Rows.{reported_in};
 ghost use Rattle.write_plant.specs.Lent.{write_ruling, written_length, written_into};
 
-use base_rulings::{number, value};
+use base_rulings::Ruling;
 use call_board::fresh;
 use call_clocking::clock;
 use call_planning::plan;
@@ -20,31 +20,24 @@ use call_sending::send;
 use spec_plain::Settings;
 use write_plant::write_plant;
 
-// The value is written into the first word, where there is one.
-fn write_cause(cause: &mut [u32], v: u32)
-    ensures { cause.new ≡ set cause.old 0 v }
+// v is written into word k of the list, where there is one.
+// Stays: with `get_mut` the proof did not close: of the other words nothing is known after it.
+fn store(list: &mut [u32], k: usize, v: u32)
+    ensures { list.new ≡ set list.old k v }
 {
-    if 0 < cause.len() {
-        cause[0] = v;
-    }
-}
-
-// The length is written into the second word, where there is one.
-fn write_length(written: &mut [u32], n: u32)
-    ensures { written.new ≡ set written.old 1 n }
-{
-    if 1 < written.len() {
-        written[1] = n;
+    if k < list.len() {
+        list[k] = v;
     }
 }
 
 // A fresh board with this horizon and lead; or 5, and a board of zeros.
+// Stays: the C interface takes and gives numbers and lists of numbers, here and in each call below.
 #[unsafe(no_mangle)]
 pub extern "C" fn sf_fresh(board: &mut [u32], horizon: u32, lead: u32) -> u32
     ensures number { result ≡ number_of (fresh_ruling (record { horizon = horizon; lead = lead }) board.old) }
     ensures words { board.new ≡ fresh_words (record { horizon = horizon; lead = lead }) board.old }
 {
-    number(fresh(board, Settings { horizon, lead }))
+    fresh(board, Settings { horizon, lead }).number()
 }
 
 // The first of refusals 1 to 4, 6, 7 to 10, 23 and 11 to 17, or the board with the offer's job. The value of the refusal goes into `cause`.
@@ -57,8 +50,8 @@ pub extern "C" fn sf_plan(board: &mut [u32], plant: &[u8], offer: &[u8], cause: 
         set cause.old 0 (value_of (planned (lent_board board.old) plant.now offer.now).ruling) }
 {
     let ruling = plan(board, plant, offer);
-    write_cause(cause, value(ruling));
-    number(ruling)
+    store(cause, 0, ruling.value().unwrap_or(0));
+    ruling.number()
 }
 
 // 6 and 18, or the board with the unsent jobs up to the place sent.
@@ -67,7 +60,7 @@ pub extern "C" fn sf_send(board: &mut [u32], place: u32) -> u32
     ensures number { result ≡ number_of (sent (lent_board board.old) place).ruling }
     ensures words { board.new ≡ words_after board.old (sent (lent_board board.old) place) }
 {
-    number(send(board, place))
+    send(board, place).number()
 }
 
 // 6, 19 and 20, or the board with its clock moved.
@@ -76,7 +69,7 @@ pub extern "C" fn sf_clock(board: &mut [u32], c: u32) -> u32
     ensures number { result ≡ number_of (clocked (lent_board board.old) c).ruling }
     ensures words { board.new ≡ words_after board.old (clocked (lent_board board.old) c) }
 {
-    number(clock(board, c))
+    clock(board, c).number()
 }
 
 // 6 and 21, or the board without its oldest job.
@@ -85,7 +78,7 @@ pub extern "C" fn sf_retire(board: &mut [u32]) -> u32
     ensures number { result ≡ number_of (retired (lent_board board.old)).ruling }
     ensures words { board.new ≡ words_after board.old (retired (lent_board board.old)) }
 {
-    number(retire(board))
+    retire(board).number()
 }
 
 // 6, 22, or the rows of the board in front of the list, and the rest of it as it was. The words of the board stay as they are.
@@ -94,7 +87,7 @@ pub extern "C" fn sf_report(board: &[u32], rows: &mut [Row]) -> u32
     ensures { (result ≡ number_of (reported_in board.now rows.old).ruling)
         × (rows.new ≡ (reported_in board.now rows.old).rows) }
 {
-    number(report(board, rows))
+    report(board, rows).number()
 }
 
 // 2, then 3 and 4 action by action, then 22; or the plant file of the actions in front of the buffer, and the rest of it as it was. The value of the refusal
@@ -108,8 +101,8 @@ pub extern "C" fn sf_write_plant(actions: &[u32], plant: &mut [u8], written: &mu
         1 (written_length actions.now (length plant.old)) }
 {
     let filed = write_plant(actions, plant);
-    let ruled = filed.ruling;
-    write_cause(written, value(ruled));
-    write_length(written, filed.length as u32);
-    number(ruled)
+    let ruled = Ruling::from(filed);
+    store(written, 0, ruled.value().unwrap_or(0));
+    store(written, 1, filed.unwrap_or(0) as u32);
+    ruled.number()
 }

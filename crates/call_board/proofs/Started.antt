@@ -1,7 +1,6 @@
 -- The words of a fresh board, and of the board of a refused fresh. Assumes nothing.
 --   zero_words        the words of the zero board are all 0
 --   fresh_words_lem       those of a fresh board are its settings, the origin's gap with itself, and 0 everywhere else
---   stored_length     clearing and storing leave as many words
 --   other_number      words that are not as many as a board has: 6, and they stay
 --   refused_words     settings out of range: 5, and the words of the zero board;  accepted_words: those of the fresh board
 use Prim.Native.Nat.{ℕ, zero, suc, ◌+◌, ◌<◌}
@@ -19,15 +18,15 @@ use Rattle.base_rulings.specs.Answer.{refuse}
 use Rattle.part_lines.specs.Padded.{padded}
 use Rattle.spec_stn.specs.Table.{bias}
 use Rattle.spec_rulebook.specs.Book.{empty_lines, fresh}
-use Rattle.base_lists.specs.Loops.{build, all_below, rewritten}
-use Rattle.base_lists.proofs.Build.{build_same, build_back, build_length, build_at, build_past}
-use Rattle.base_lists.proofs.Rewritten.{rewritten_length, rewritten_whole}
+use Rattle.base_lists.specs.Loops.{build, all_below}
+use Rattle.base_lists.proofs.Build.{build_same, build_back, build_length, build_at, build_past, build_replicate}
 use Rattle.part_boardwords.specs.Layout.{horizon_at, lead_at, cells_at, board_size, mark_at}
 use Rattle.part_boardwords.specs.Words.{Words, zeros, all_marked, is_marked, cell_at, cells_read, frame_read, board_read}
 use Rattle.part_boardwords.specs.Codec.{words_of}
 use Rattle.part_boardwords.proofs.Inverse.{all_read}
 use Rattle.spec_plain.specs.Limits.{cell_count}
 use Rattle.spec_plain.specs.declared.Settings.{Settings}
+use Rattle.part_sound.specs.Sound.{sized_settings}
 use Rattle.call_board.specs.Boards.{board_of, bad_settings, fresh_cells, zero_board, fresh_board, fresh_ruled}
 use Rattle.call_board.specs.InWords.{fresh_ruling, fresh_words}
 use Rattle.call_board.proofs.FreshSound.{fresh_origin, fresh_elsewhere}
@@ -86,26 +85,18 @@ module _ (s : Settings) where
 
 -- ---- fresh, case by case
 
--- words cleared and two of them stored: as many as before
-pub stored_length : (w x : List ℕ) (s : Settings) → x ≡ rewritten zeros w 0 board_size → length (set (set x horizon_at s.horizon) lead_at s.lead) ≡ length w
-stored_length w x s cleared =
-    length-set (set x horizon_at s.horizon) lead_at s.lead
-    ∙ length-set x horizon_at s.horizon
-    ∙ ap length cleared
-    ∙ rewritten_length zeros w 0 board_size
-
 module _ (s : Settings) (w : List ℕ) where
   pub other_number : (length w ≡ board_size → ⊥) → (refuse 6 ≡ fresh_ruling s w) × (w ≡ fresh_words s w)
   unfolding fresh_ruling fresh_words
   other_number h = let e = ne_eqb (length w) board_size h in (rw e, rw e)
 
   -- all words cleared
-  module _ (x : List ℕ) (size : length w ≡ board_size) (cleared : x ≡ rewritten zeros w 0 board_size) where
+  module _ (x : List ℕ) (size : length w ≡ board_size) (cleared : x ≡ replicate (length w) 0) where
     all_zero : x ≡ build zeros board_size
-    all_zero = cleared ∙ rewritten_whole zeros w board_size size
+    all_zero = cleared ∙ ap (λ (n : ℕ). replicate n 0) size ∙ build_replicate board_size 0
 
-    pub refused_words : bad_settings s ≡ true → (refuse 5 ≡ fresh_ruling s w) × (x ≡ fresh_words s w)
-    unfolding fresh_ruling fresh_words fresh_ruled
+    pub refused_words : sized_settings s ≡ false → (refuse 5 ≡ fresh_ruling s w) × (x ≡ fresh_words s w)
+    unfolding fresh_ruling fresh_words fresh_ruled bad_settings
     refused_words bad = let e = eq-eqb (length w) board_size size in (rw (e, bad), rw (e, bad) (all_zero ∙ sym zero_words))
 
     -- the list that is left where the settings and the origin's gap are stored
@@ -152,8 +143,8 @@ module _ (s : Settings) (w : List ℕ) where
     stored_long : length stored ≡ board_size
     stored_long = length-set headed cells_at bias ∙ length-set (set x horizon_at s.horizon) lead_at s.lead ∙ length-set x horizon_at s.horizon ∙ long
 
-    pub accepted_words : bad_settings s ≡ false → (Accepted ≡ fresh_ruling s w) × (stored ≡ fresh_words s w)
-    unfolding fresh_ruling fresh_words fresh_ruled
+    pub accepted_words : sized_settings s ≡ true → (Accepted ≡ fresh_ruling s w) × (stored ≡ fresh_words s w)
+    unfolding fresh_ruling fresh_words fresh_ruled bad_settings
     accepted_words good =
         let e = eq-eqb (length w) board_size size in
         let is : stored ≡ build (started s) board_size =

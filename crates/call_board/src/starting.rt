@@ -1,19 +1,12 @@
 // A fresh board.
 ghost use Rattle.std.specs.Prelude.{◌≡◌};
-ghost use Rattle.call_board.specs.Boards.{bad_settings};
 ghost use Rattle.call_board.specs.InWords.{fresh_ruling, fresh_words};
 
 use base_rulings::{Cause, Ruling};
-use part_boardwords::{clear, layout};
+use part_boardwords::layout;
 use part_gaps::BIAS;
 use part_sound::are_settings_sized;
 use spec_plain::Settings;
-
-fn is_bad(s: Settings) -> bool
-    ensures { result ≡ bad_settings s }
-{
-    !are_settings_sized(s)
-}
 
 // A board with these settings, clock 0 and the origin, whatever the words held; or 5, and all zeros, so that no sound board is left to a caller
 // who misses it. Another number of words is 6, and nothing is written.
@@ -24,8 +17,8 @@ pub fn fresh(w: &mut [u32], s: Settings) -> Ruling
     if w.len() != layout::BOARD_WORDS {
         return Ruling::Refused(Cause::Plain(6));
     }
-    clear(w, 0, layout::BOARD_WORDS);
-    if is_bad(s) {
+    w.fill(0);
+    if !are_settings_sized(s) {
         return Ruling::Refused(Cause::Plain(5));
     }
     w[layout::HORIZON_AT] = s.horizon;

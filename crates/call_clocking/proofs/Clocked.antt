@@ -157,28 +157,28 @@ module _
 
     pub start_words :
         (rules : Rules) → Collected w c rules g
-        → (rules.count ≤ most_rules) × ((n : ℕ) → n ≡ suc (total (jobs_of (held_jobs (word_in w)))) → AllUsable n (rules_of rules))
+        → (rules.count ≤ most_rules) × ((n : ℕ) (rs : List Rule) → n ≡ suc (total (jobs_of (held_jobs (word_in w)))) → rs ≡ rules_of rules → AllUsable n rs)
     start_words rules er =
         let b = board_in w in
         let made = collected rules er in (
           rules_few b (is_sound w e) c by_horizon rules made,
-          λ n en. subst (λ (m : ℕ). AllUsable m (rules_of rules)) (sym en) (rules_usable b (is_sound w e) c by_horizon rules made),
+          λ n rs en es. rw (en, es) (rules_usable b (is_sound w e) c by_horizon rules made),
         )
 
     -- the words after a clock that leaves no timetable, and those after one that does
     pub clocked_words :
-        (rules : Rules) (n : ℕ) (ok : Bool) (t : List ℕ) → Collected w c rules g
-        → n ≡ suc (total (jobs_of (held_jobs (word_in w)))) → outcome ok t ≡ added_all (rules_of rules) n (lent_table w)
+        (rules : Rules) (rs : List Rule) (n : ℕ) (ok : Bool) (t : List ℕ) → Collected w c rules g → rs ≡ rules_of rules
+        → n ≡ suc (total (jobs_of (held_jobs (word_in w)))) → outcome ok t ≡ added_all rs n (lent_table w)
         → (ok ≡ false → t ≡ lent_table w → (Refused (plain 20) ≡ (clocked (board_in w) c).ruling) × (words_with w t ≡ words_after w (clocked (board_in w) c)))
         × ((x z : List ℕ) → ok ≡ true → length (words_with w t) ≡ board_size → x ≡ fronted (words_with w t) c (jobs_from (jobs_of (held_jobs (word_in w))))
         → z ≡ overwritten x lines_at (lines_words (lines_from (lines_of (lines_read (word_in x)))))
         → (Accepted ≡ (clocked (board_in w) c).ruling) × (z ≡ words_after w (clocked (board_in w) c)))
-    clocked_words rules n ok t er en eo = (
-      (λ no same. let r = unanswered w (clocked b c) b (plain 20) (none_left b c e later by_horizon (rules_of rules) n ok t are en tried no) in
+    clocked_words rules rs n ok t er es en eo = (
+      (λ no same. let r = unanswered w (clocked b c) b (plain 20) (none_left b c e later by_horizon rs n ok t are en tried no) in
           (r.0, unwritten w len t same ∙ r.1)),
       (λ x z yes size ex ez.
           let new = jobs_from (jobs_of (held_jobs (word_in w))) in
-          answered w z (clocked b c) _ (moved b c e later by_horizon (rules_of rules) n ok t are en tried new (lines_from (lines_of b.lines)) yes refl refl)
+          answered w z (clocked b c) _ (moved b c e later by_horizon rs n ok t are en tried new (lines_from (lines_of b.lines)) yes refl refl)
           (assembled w e len t c new x ex size (lines_from (lines_of b.lines)) z
           (ez ∙ ap (λ (ls : List Line). overwritten x lines_at (lines_words (lines_from (lines_of ls)))) (lines_kept w e len t c new x ex)))),
     )
@@ -186,8 +186,8 @@ module _
         b : Board
         b = board_in w
 
-        are : rules_of rules ≡ starts (c + word_in w lead_at) 1 (jobs_of (board_in w).jobs)
-        are = rules_are (board_in w) (is_sound w e) c by_horizon rules (collected rules er)
+        are : rs ≡ starts (c + word_in w lead_at) 1 (jobs_of (board_in w).jobs)
+        are = es ∙ rules_are (board_in w) (is_sound w e) c by_horizon rules (collected rules er)
 
-        tried : outcome ok t ≡ added_all (rules_of rules) n (board_in w).gaps
-        tried = eo ∙ ap (added_all (rules_of rules) n) (cells_lent w len)
+        tried : outcome ok t ≡ added_all rs n (board_in w).gaps
+        tried = eo ∙ ap (added_all rs n) (cells_lent w len)

@@ -4,6 +4,7 @@
 #![tactic(auto)]
 
 ghost use Rattle.std.specs.Prelude.{◌≡◌, true, ◌≤◌, length};
+ghost use Rattle.base_rulings.specs.Order.{refusal_of};
 ghost use Rattle.part_boardwords.specs.Layout.{clock_at, board_size};
 ghost use Rattle.part_boardwords.specs.Words.{word_in, settings_read, board_in, lent_board};
 ghost use Rattle.part_sound.specs.Sound.{sound};
@@ -19,35 +20,36 @@ use part_sound::is_sound;
 use spec_plain::Settings;
 
 // The clock's rules tried on a sound board: 20, or c becomes the clock and p0 of each unsent job is at least c and the lead.
-fn move_clock(w: &mut [u32], settings: Settings, c: u32) -> Ruling
+fn move_clock(w: &mut [u32], settings: Settings, c: u32) -> Result<(), Cause>
     requires w_len { length w.old ≡ board_size }
     requires w_value { (sound (board_in w.old) ≡ true) × (settings ≡ settings_read (word_in w.old)) × (word_in w.old clock_at ≤ c) × (c ≤ settings.horizon) }
-    ensures ruling { result ≡ (clocked (board_in w.old) c).ruling }
+    ensures ruling { refusal_of result ≡ (clocked (board_in w.old) c).ruling }
     ensures words { w.new ≡ words_after w.old (clocked (board_in w.old) c) }
 {
     let n = points_in(w) as usize + 1;
     let rules = start_rules(w, c + settings.lead);
-    if !try_rules(&mut w[layout::CELLS_AT..], n, rules) {
-        return Ruling::Refused(Cause::Plain(20));
+    if !try_rules(&mut w[layout::CELLS_AT..], n, rules.as_slice()) {
+        return Err(Cause::Plain(20));
     }
     write_clock(w, c);
     tidy_lines(w);
-    Ruling::Accepted
+    Ok(())
 }
 
 // On a sound board: 19 and 20, or the words of the board with its clock moved.
-fn clock_sound(w: &mut [u32], c: u32) -> Ruling
+// Stays: a struct could know of a sound board up to the first write alone, and `clock`, which tests it, is the only caller.
+fn clock_sound(w: &mut [u32], c: u32) -> Result<(), Cause>
     requires w_len { length w.old ≡ board_size }
     requires w_value { sound (board_in w.old) ≡ true }
-    ensures ruling { result ≡ (clocked (board_in w.old) c).ruling }
+    ensures ruling { refusal_of result ≡ (clocked (board_in w.old) c).ruling }
     ensures words { w.new ≡ words_after w.old (clocked (board_in w.old) c) }
 {
     if c < w[layout::CLOCK_AT] {
-        return Ruling::Refused(Cause::Plain(19));
+        return Err(Cause::Plain(19));
     }
     let settings = settings_in(w);
     if settings.horizon < c {
-        return Ruling::Refused(Cause::Plain(19));
+        return Err(Cause::Plain(19));
     }
     move_clock(w, settings, c)
 }
@@ -60,5 +62,5 @@ pub fn clock(w: &mut [u32], c: u32) -> Ruling
     if !is_sound(w) {
         return Ruling::Refused(Cause::Plain(6));
     }
-    clock_sound(w, c)
+    Ruling::from(clock_sound(w, c))
 }

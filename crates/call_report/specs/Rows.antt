@@ -8,12 +8,14 @@
 --   report_ruling b n   the ruling on a report of the board b into a list of n rows
 --   reported b l       the answer to a report into the list l: the ruling, and the list after the call
 --   ruling_in w n, reported_in w l   the same of the board that the words w hold; 6 where they are not as many as a board has
---   reported_into w n l a report into the first n rows of an array of 64, all of them where n is more: the ruling, and the array next_cursor the call
---   asked w n          what a report into a list of n rows comes to, before a row is stored: the ruling, and how many rows are to be stored
+--   reported_into w n l a report into the first n rows of an array of 64, all of them where n is more: the ruling, and the array after the call
+--   asked w n          what a report into a list of n rows comes to, before a row is stored: how many rows are to be stored, or why it is refused
+--   granted r n        n where r is accepted, else the cause of the refusal
 --   cursor w k         where row k stands in the words w: its job's place, its point's place in the job;  next_cursor w c: where the row after it does
-use Rattle.std.specs.Prelude.{ℕ, zero, suc, ◌+◌, min, cond, not, List, [], ◌∷◌, ◌++◌, length, take, drop, ltb, eqb}
+use Rattle.std.specs.Prelude.{ℕ, zero, suc, ◌+◌, min, cond, not, List, [], ◌∷◌, ◌++◌, length, take, drop, ltb, eqb, Result, Ok, Err}
+use Rattle.base_rulings.specs.declared.Cause.{Cause}
 use Rattle.base_rulings.specs.declared.Ruling.{Ruling}
-use Rattle.base_rulings.specs.declared.Ruling.TheVariants.{Accepted}
+use Rattle.base_rulings.specs.declared.Ruling.TheVariants.{Accepted, Refused}
 use Rattle.base_rulings.specs.Answer.{refuse}
 use Rattle.base_rulings.specs.Order.{if_accepted}
 use Rattle.spec_plain.specs.Limits.{most_points}
@@ -27,7 +29,6 @@ use Rattle.part_boardwords.specs.Words.{Words, job_at, board_in}
 use Rattle.part_sound.specs.Sound.{sound}
 use Rattle.call_report.specs.declared.Row.{Row}
 use Rattle.call_report.specs.declared.Reported.{Reported}
-use Rattle.call_report.specs.declared.Asked.{Asked}
 use Rattle.call_report.specs.declared.Cursor.{Cursor}
 
 -- ---- the rows
@@ -93,9 +94,13 @@ reported_into w n l =
 
 -- ---- row by row
 
--- none where it refuses
-unfoldable pub asked : List ℕ → ℕ → Asked
-asked w n = record { ruling = ruling_in w n; stores = if_accepted (ruling_in w n) (length (rows_of (board_in w))) 0 }
+-- n where accepted, and otherwise the cause of the refusal
+abbrev pub granted : Ruling → ℕ → Result ℕ Cause
+granted Accepted n = Ok n
+granted (Refused c) n = Err c
+
+unfoldable pub asked : List ℕ → ℕ → Result ℕ Cause
+asked w n = granted (ruling_in w n) (length (rows_of (board_in w)))
 
 -- the job's next point, or the first of the next job
 unfoldable pub next_cursor : Words → Cursor → Cursor

@@ -2,12 +2,12 @@
 --   ends_stays, ends_goes      a use of a point that stays, and of one that leaves
 --   ends_split, lines_split    the first of a line's uses and the others; the first line and the others
 --   uses_end, lines_end          the tests of a list of uses, and of lines
---   uses_next, uses_end_lem        the loop over the uses of a line;  lines_next, lines_end_lem: over the lines
+--   uses_next, uses_stop, uses_end_lem   the loop over the uses of a line;  lines_next, lines_stop, lines_end_lem: over the lines
 --   last_late, last_over       the last point after the clock, and by it
 --   read_at, read_next         a use of a line read where it lies, in words
---   lined_read                 what is asked of a line of a board's words;  read_line_next, _end: the loop over them
+--   lined_read                 what is asked of a line of a board's words;  read_line_next, _stops, _end: the loop over them
 use mathlib.Core.Path.{◌≡◌, refl, sym, ◌∙◌, ap, subst}
-use mathlib.Core.Bool.{Bool, true, false, cond, ◌&&◌, and-true, and_assoc}
+use mathlib.Core.Bool.{Bool, true, false, cond, ◌&&◌, and-true}
 use mathlib.Core.List.{List, [], ◌∷◌, append-nil}
 use Prim.Native.Nat.{ℕ, ◌+◌, ◌≤◌, ◌<◌}
 use native.Mathlib.Omega.{arith}
@@ -34,22 +34,22 @@ use Rattle.spec_stn.proofs.Fits.{implied_append}
 use Rattle.part_gaps.specs.Cells.{cell, table_of}
 use Rattle.part_gaps.proofs.Overlaid.{origin_row}
 
--- ---- a loop that goes down a list with `ok = ok & test`. Its invariant: the flag, and the test of what is left, are together the test of
--- the whole list
+-- ---- a loop that goes down a list and stops at the first that fails. Its invariant: the test of what is left is the test of the whole list
 
 module _
     {A : Type 0} (one : A → Bool) (all : List A → Bool) (split : (a : A) (l : List A) → all (a ∷ l) ≡ (one a && all l)) (l : List A) (k : ℕ)
-    (ok : Bool) (is : (ok && all (drop k l)) ≡ all l) where
-  flag_next : (a : A) (test : Bool) → drop k l ≡ a ∷ drop (k + 1) l → test ≡ one a → (ok && test && all (drop (k + 1) l)) ≡ all l
-  flag_next a test e t =
-      ap (λ (b : Bool). ok && b && all (drop (k + 1) l)) t
-      ∙ and_assoc ok (one a) (all (drop (k + 1) l))
-      ∙ ap (◌&&◌ ok) (sym (split a (drop (k + 1) l)))
-      ∙ ap (λ (q : List A). ok && all q) (sym e)
-      ∙ is
+    (is : all (drop k l) ≡ all l) where
+  here : (a : A) → drop k l ≡ a ∷ drop (k + 1) l → (one a && all (drop (k + 1) l)) ≡ all l
+  here a e = sym (split a (drop (k + 1) l)) ∙ ap all (sym e) ∙ is
 
-  flag_end : drop k l ≡ [] → all [] ≡ true → ok ≡ all l
-  flag_end e z = sym (and-true ok) ∙ ap (◌&&◌ ok) (sym z) ∙ ap (λ (q : List A). ok && all q) (sym e) ∙ is
+  goes_on : (a : A) → drop k l ≡ a ∷ drop (k + 1) l → one a ≡ true → all (drop (k + 1) l) ≡ all l
+  goes_on a e y = ap (λ (b : Bool). b && all (drop (k + 1) l)) (sym y) ∙ here a e
+
+  stops : (a : A) → drop k l ≡ a ∷ drop (k + 1) l → one a ≡ false → false ≡ all l
+  stops a e n = ap (λ (b : Bool). b && all (drop (k + 1) l)) (sym n) ∙ here a e
+
+  ends : drop k l ≡ [] → all [] ≡ true → true ≡ all l
+  ends e z = sym z ∙ ap all (sym e) ∙ is
 
 -- ---- the test
 
@@ -85,25 +85,30 @@ module _ (l : List ℕ) (s : Settings) (c f m : ℕ) where
 
   -- ---- the loops
 
-  pub uses_next :
-      (us : List Use) (k : ℕ) (ok : Bool) → (ok && uses_end (drop k us)) ≡ uses_end us → (u : Use) (test : Bool)
-      → drop k us ≡ u ∷ drop (k + 1) us → test ≡ uses_end (u ∷ []) → (ok && test && uses_end (drop (k + 1) us)) ≡ uses_end us
-  uses_next = flag_next (λ u. uses_end (u ∷ [])) uses_end ends_split
+  module _ (us : List Use) (k : ℕ) (is : uses_end (drop k us) ≡ uses_end us) where
+    pub uses_next : (u : Use) → drop k us ≡ u ∷ drop (k + 1) us → uses_end (u ∷ []) ≡ true → uses_end (drop (k + 1) us) ≡ uses_end us
+    uses_next = goes_on (λ u. uses_end (u ∷ [])) uses_end ends_split us k is
 
-  pub uses_end_lem : (us : List Use) (k : ℕ) (ok : Bool) → (ok && uses_end (drop k us)) ≡ uses_end us → drop k us ≡ [] → ok ≡ uses_end us
-  unfolding ends_by entails_all
-  uses_end_lem us k ok is e = flag_end (λ u. uses_end (u ∷ [])) uses_end ends_split us k ok is e refl
+    pub uses_stop : (u : Use) → drop k us ≡ u ∷ drop (k + 1) us → uses_end (u ∷ []) ≡ false → false ≡ uses_end us
+    uses_stop = stops (λ u. uses_end (u ∷ [])) uses_end ends_split us k is
 
-  lines_next :
-      (ls : List Line) (k : ℕ) (ok : Bool) → (ok && lines_end (drop k ls)) ≡ lines_end ls → (test : Bool) → k < length ls
-      → test ≡ uses_end (line_of (get_or ls k no_line)) → (ok && test && lines_end (drop (k + 1) ls)) ≡ lines_end ls
-  lines_next ls k ok is test h t =
-      let left : drop k ls ≡ get_or ls k no_line ∷ drop (k + 1) ls = rw (add-one k) (drop-cons ls k no_line h) in
-      flag_next (λ q. uses_end (line_of q)) lines_end lines_split ls k ok is (get_or ls k no_line) test left t
+    pub uses_end_lem : drop k us ≡ [] → true ≡ uses_end us
+    unfolding ends_by entails_all
+    uses_end_lem e = ends (λ u. uses_end (u ∷ [])) uses_end ends_split us k is e refl
 
-  lines_end_lem : (ls : List Line) (k : ℕ) (ok : Bool) → (ok && lines_end (drop k ls)) ≡ lines_end ls → length ls ≤ k → ok ≡ lines_end ls
-  unfolding all_end_by entails_all
-  lines_end_lem ls k ok is h = flag_end (λ q. uses_end (line_of q)) lines_end lines_split ls k ok is (drop_of_length-le ls h) refl
+  module _ (ls : List Line) (k : ℕ) (is : lines_end (drop k ls) ≡ lines_end ls) where
+    left : k < length ls → drop k ls ≡ get_or ls k no_line ∷ drop (k + 1) ls
+    left h = rw (add-one k) (drop-cons ls k no_line h)
+
+    lines_next : k < length ls → uses_end (line_of (get_or ls k no_line)) ≡ true → lines_end (drop (k + 1) ls) ≡ lines_end ls
+    lines_next h = goes_on (λ q. uses_end (line_of q)) lines_end lines_split ls k is (get_or ls k no_line) (left h)
+
+    lines_stop : k < length ls → uses_end (line_of (get_or ls k no_line)) ≡ false → false ≡ lines_end ls
+    lines_stop h = stops (λ q. uses_end (line_of q)) lines_end lines_split ls k is (get_or ls k no_line) (left h)
+
+    lines_end_lem : length ls ≤ k → true ≡ lines_end ls
+    unfolding all_end_by entails_all
+    lines_end_lem h = ends (λ q. uses_end (line_of q)) lines_end lines_split ls k is (drop_of_length-le ls h) refl
 
 -- ---- the last point, with the tray gap d behind it
 
@@ -141,15 +146,25 @@ lined_read w k at h start l =
     let there : LineShort w (line_start k) = (omega (arith, line_count w k h, l.counts k), subst AllShort (line_held w k h) (l.short k)) in
     subst (LineShort w) (sym start) there
 
-module _ (l : List ℕ) (s : Settings) (c f m : ℕ) (w : Words) (k : ℕ) (ok : Bool)
-    (is : (ok && lines_end l s c f m (drop k (lines_read w))) ≡ lines_end l s c f m (lines_read w)) where
-  pub read_line_next :
-      (test : Bool) (at : ℕ) → k < resources → at ≡ line_start k → test ≡ uses_end l s c f m (line_of (line_read w at))
-      → (ok && test && lines_end l s c f m (drop (k + 1) (lines_read w))) ≡ lines_end l s c f m (lines_read w)
-  read_line_next test at h start t =
-      lines_next l s c f m (lines_read w) k ok is test (omega (arith, build_length (line_at w) resources))
-      (t ∙ ap (λ (i : ℕ). uses_end l s c f m (line_of (line_read w i))) start
-      ∙ ap (λ (q : Line). uses_end l s c f m (line_of q)) (sym (line_of_lem w k h)))
+module _ (l : List ℕ) (s : Settings) (c f m : ℕ) (w : Words) (k : ℕ)
+    (is : lines_end l s c f m (drop k (lines_read w)) ≡ lines_end l s c f m (lines_read w)) where
+  many : length (lines_read w) ≡ resources
+  many = build_length (line_at w) resources
 
-  pub read_line_end : resources ≤ k → ok ≡ lines_end l s c f m (lines_read w)
-  read_line_end h = lines_end_lem l s c f m (lines_read w) k ok is (omega (arith, build_length (line_at w) resources))
+  -- the line that is read is line k
+  same : (at : ℕ) → k < resources → at ≡ line_start k → uses_end l s c f m (line_of (get_or (lines_read w) k no_line)) ≡ uses_end l s c f m (line_of (line_read w at))
+  same at h start =
+      ap (λ (q : Line). uses_end l s c f m (line_of q)) (line_of_lem w k h)
+      ∙ ap (λ (i : ℕ). uses_end l s c f m (line_of (line_read w i))) (sym start)
+
+  pub read_line_next :
+      (at : ℕ) → k < resources → at ≡ line_start k → uses_end l s c f m (line_of (line_read w at)) ≡ true
+      → lines_end l s c f m (drop (k + 1) (lines_read w)) ≡ lines_end l s c f m (lines_read w)
+  read_line_next at h start y = lines_next l s c f m (lines_read w) k is (omega (arith, many)) (same at h start ∙ y)
+
+  pub read_line_stops :
+      (at : ℕ) → k < resources → at ≡ line_start k → uses_end l s c f m (line_of (line_read w at)) ≡ false → false ≡ lines_end l s c f m (lines_read w)
+  read_line_stops at h start n = lines_stop l s c f m (lines_read w) k is (omega (arith, many)) (same at h start ∙ n)
+
+  pub read_line_end : resources ≤ k → true ≡ lines_end l s c f m (lines_read w)
+  read_line_end h = lines_end_lem l s c f m (lines_read w) k is (omega (arith, many))

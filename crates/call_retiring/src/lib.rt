@@ -6,6 +6,7 @@
 mod ending; // whether points that leave are over by the clock
 
 ghost use Rattle.std.specs.Prelude.{◌≡◌, true, ◌∷◌, ◌+◌, ◌-◌, ◌≤◌, length};
+ghost use Rattle.base_rulings.specs.Order.{refusal_of};
 ghost use Rattle.spec_plain.specs.Plain.{tray_gap, over_by, all_end_by};
 ghost use Rattle.part_lines.specs.ArrayLists.{lines_of};
 ghost use Rattle.part_lines.specs.Asked.{Lined};
@@ -18,7 +19,7 @@ ghost use Rattle.part_sound.specs.Sound.{sound};
 ghost use Rattle.call_board.specs.Calls.{retired};
 ghost use Rattle.call_board.specs.InWords.{words_after};
 
-use crate::ending::are_over;
+use crate::ending::Leaving;
 use base_rulings::{Cause, Ruling};
 use part_boardwords::{job_at, layout, settings_in};
 use part_gaps::drop_points;
@@ -35,48 +36,49 @@ fn is_over(w: &[u32], m: u32) -> bool
         (over_by (1 + m - 1) (tray_gap (settings_read (word_in w.now))) (word_in w.now clock_at)
         ∷ all_end_by (settings_read (word_in w.now)) (word_in w.now clock_at) 1 m (lines_of (lines_read (word_in w.now)))) }
 {
-    are_over(
-        &w[layout::CELLS_AT..],
-        settings_in(w),
-        w[layout::CLOCK_AT],
-        1,
+    let leaving = Leaving {
+        table: &w[layout::CELLS_AT..],
+        settings: settings_in(w),
+        clock: w[layout::CLOCK_AT],
+        f: 1,
         m,
-        w,
-    )
+    };
+    leaving.are_over(w)
 }
 
 // The oldest job, which was sent, on a sound board: 21, or the board without it. Its points are those from 1 on.
-fn retire_sent(w: &mut [u32]) -> Ruling
+fn retire_sent(w: &mut [u32]) -> Result<(), Cause>
     requires w_len { length w.old ≡ board_size }
     requires w_value { (sound (board_in w.old) ≡ true) × (1 ≤ word_in w.old count_at) × ((job_at (word_in w.old) 0).sent ≡ true) }
-    ensures ruling { result ≡ (retired (board_in w.old)).ruling }
+    ensures ruling { refusal_of result ≡ (retired (board_in w.old)).ruling }
     ensures words { w.new ≡ words_after w.old (retired (board_in w.old)) }
 {
     let n = points_in(w) as usize + 1;
     let oldest = job_at(w, 0);
     let m = oldest.points;
     if !is_over(w, m) {
-        return Ruling::Refused(Cause::Plain(21));
+        return Err(Cause::Plain(21));
     }
     drop_points(&mut w[layout::CELLS_AT..], 1, m as usize, n);
     drop_oldest(w);
     stay_lines(w, 1, m);
-    Ruling::Accepted
+    Ok(())
 }
 
 // On a sound board: 21, or the words of the board without its oldest job.
-fn retire_sound(w: &mut [u32]) -> Ruling
+// Stays: a struct could know of a sound board up to the first write alone, and `retire`, which tests it, is the only caller.
+fn retire_sound(w: &mut [u32]) -> Result<(), Cause>
     requires w_len { length w.old ≡ board_size }
     requires w_value { sound (board_in w.old) ≡ true }
-    ensures ruling { result ≡ (retired (board_in w.old)).ruling }
+    ensures ruling { refusal_of result ≡ (retired (board_in w.old)).ruling }
     ensures words { w.new ≡ words_after w.old (retired (board_in w.old)) }
 {
     if w[layout::COUNT_AT] == 0 {
-        return Ruling::Refused(Cause::Plain(21));
+        return Err(Cause::Plain(21));
     }
     let oldest = job_at(w, 0);
     if !oldest.sent {
-        return Ruling::Refused(Cause::Plain(21));
+        return Err(Cause::Plain(21));
     }
     retire_sent(w)
 }
@@ -89,5 +91,5 @@ pub fn retire(w: &mut [u32]) -> Ruling
     if !is_sound(w) {
         return Ruling::Refused(Cause::Plain(6));
     }
-    retire_sound(w)
+    Ruling::from(retire_sound(w))
 }

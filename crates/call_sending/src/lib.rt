@@ -4,6 +4,7 @@
 #![tactic(auto)]
 
 ghost use Rattle.std.specs.Prelude.{◌≡◌, true, ◌≤◌, length};
+ghost use Rattle.base_rulings.specs.Order.{refusal_of};
 ghost use Rattle.spec_plain.specs.Limits.{most_jobs};
 ghost use Rattle.spec_plain.specs.Plain.{unsent_at};
 ghost use Rattle.part_lines.specs.ArrayLists.{jobs_of};
@@ -26,11 +27,7 @@ fn is_unsent(w: &[u32], k: usize) -> bool
     requires { (length w.now ≡ board_size) × (word_in w.now count_at ≤ most_jobs) }
     ensures { result ≡ unsent_at k (jobs_of (held_jobs (word_in w.now))) }
 {
-    if w[layout::COUNT_AT] as usize <= k {
-        return false;
-    }
-    let job = job_at(w, k);
-    !job.sent
+    k < w[layout::COUNT_AT] as usize && !job_at(w, k).sent
 }
 
 // The unsent jobs up to the place are sent, on a sound board that has an unsent one there.
@@ -42,23 +39,29 @@ fn send_up_to(w: &mut [u32], place: usize)
     let count = place + 1;
     let n = points_in(w) as usize + 1;
     let jobs = read_jobs(w);
-    freeze(&mut w[layout::CELLS_AT..], n, jobs, count);
+    freeze(
+        &mut w[layout::CELLS_AT..],
+        n,
+        &jobs.jobs[..jobs.count],
+        count,
+    );
     mark_sent(w, count);
     tidy_lines(w);
 }
 
 // On a sound board: 18, or the words of the board with the unsent jobs up to the place sent.
-fn send_sound(w: &mut [u32], place: u32) -> Ruling
+// Stays: a struct could know of a sound board up to the first write alone, and `send`, which tests it, is the only caller.
+fn send_sound(w: &mut [u32], place: u32) -> Result<(), Cause>
     requires w_len { length w.old ≡ board_size }
     requires w_value { sound (board_in w.old) ≡ true }
-    ensures ruling { result ≡ (sent (board_in w.old) place).ruling }
+    ensures ruling { refusal_of result ≡ (sent (board_in w.old) place).ruling }
     ensures words { w.new ≡ words_after w.old (sent (board_in w.old) place) }
 {
     if !is_unsent(w, place as usize) {
-        return Ruling::Refused(Cause::Plain(18));
+        return Err(Cause::Plain(18));
     }
     send_up_to(w, place as usize);
-    Ruling::Accepted
+    Ok(())
 }
 
 // 6 and 18, or the words of the board with the unsent jobs up to the place sent.
@@ -69,5 +72,5 @@ pub fn send(w: &mut [u32], place: u32) -> Ruling
     if !is_sound(w) {
         return Ruling::Refused(Cause::Plain(6));
     }
-    send_sound(w, place)
+    Ruling::from(send_sound(w, place))
 }

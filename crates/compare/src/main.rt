@@ -5,13 +5,14 @@
 
 mod meaning; // what an entry that differs means
 
-use log_boardtext::put_gap;
-use log_session::{Options, argument, argument_count, flush, replay_argument};
+use log_boardtext::Gap;
+use log_session::{Show, argument, argument_count, flush, put_error, replay_file};
 use log_tables::{Compared, compare};
-use log_text::{least, put, put_number};
-use meaning::{Entry, put_meaning};
+use log_text::Text;
+use meaning::Meaning;
 use part_boardwords::BOARD_WORDS;
 use std::env::Env;
+use std::fmt::Write;
 use std::io::{Eprint, Print};
 use std::rt::Files;
 
@@ -20,137 +21,80 @@ const ROOM: usize = 16384;
 
 fn main(rt: HostRuntime) {
     if argument_count(&rt) != 3 {
-        let _ = Print::write_all(&rt, b"! use compare FILE FILE\n");
+        let _ = println!(rt; "! use compare FILE FILE");
         return;
     }
     let mut first = [0u32; BOARD_WORDS];
-    if is_wrong(&rt, 1, &mut first) {
-        return;
-    }
     let mut second = [0u32; BOARD_WORDS];
-    if is_wrong(&rt, 2, &mut second) {
-        return;
+    let mut text = Text::new();
+    if put_log(&rt, 1, &mut first, &mut text) && put_log(&rt, 2, &mut second, &mut text) {
+        put_answer(&rt, &first, &second, &mut text);
     }
-    write_answer(&rt, &first, &second);
+    flush(&rt, &text);
 }
 
 // ---- a log
 
-// Replays the kth argument's log without its answers, and says whether an error ended it, which it writes. The last board is left in the words lent.
-fn is_wrong<R: Env + Files + Print + Eprint>(
+// Replays the kth argument's log without its answers, and says whether it ended well; where it did not, the error is put, as `! FILE: LINE WHY`. The
+// last board is left in the words lent.
+fn put_log<R: Env + Files + Print + Eprint>(
     rt: &R,
     k: usize,
     board: &mut [u32; BOARD_WORDS],
+    text: &mut Text<ROOM>,
 ) -> bool {
-    let mut out = [0u8; ROOM];
-    let quiet = Options {
-        shown: false,
-        explain: false,
-    };
-    let state = replay_argument(rt, k, quiet, board, &mut out);
-    if state.failed {
-        write_error(rt, k, &out, state.waiting);
+    let name = argument(rt, k);
+    match replay_file(rt, name.as_bytes(), Show::Nothing, board, text) {
+        Ok(()) => true,
+        Err(error) => {
+            put_name(rt, k, text);
+            put_error(text, error, name.as_bytes());
+            false
+        }
     }
-    state.failed
-}
-
-// Writes `! FILE: LINE WHY` from the line `! LINE WHY` of the replay.
-fn write_error<R: Env + Print + Eprint>(rt: &R, k: usize, error: &[u8], end: usize) {
-    let stop = least(end, error.len());
-    let from = least(2, stop);
-    let mut out = [0u8; ROOM];
-    let at = put_name(rt, &mut out, k);
-    let last = put(&mut out, at, &error[from..stop]);
-    flush(rt, &out, last);
 }
 
 // Puts `! FILE: `, with the name of the kth argument's file.
-fn put_name<R: Env>(rt: &R, out: &mut [u8], k: usize) -> usize {
-    let mut name = [0u8; 4096];
-    let n = argument(rt, k, &mut name);
-    let mark = put(out, 0, b"! ");
-    let end = put(out, mark, &name[..n]);
-    put(out, end, b": ")
+fn put_name<R: Env>(rt: &R, k: usize, text: &mut Text<ROOM>) {
+    text.put(b"! ");
+    text.put(argument(rt, k).as_bytes());
+    text.put(b": ");
 }
 
 // ---- the answer
 
-fn write_answer<R: Env + Print + Eprint>(rt: &R, a: &[u32; BOARD_WORDS], b: &[u32; BOARD_WORDS]) {
-    let mut out = [0u8; ROOM];
-    let answer = compare(a, b);
-    let end = put_answer(rt, &mut out, answer);
-    let last = put_entry_meaning(&mut out, end, a, b, answer);
-    flush(rt, &out, last);
-}
-
-fn put_answer<R: Env>(rt: &R, out: &mut [u8], answer: Compared) -> usize {
-    match answer {
-        Compared::FirstUnsound => put_unsound(rt, out, 1),
-        Compared::SecondUnsound => put_unsound(rt, out, 2),
-        Compared::Points(n, m) => put_points(out, n, m),
-        Compared::Entry(i, j, x, y) => put_entry(out, i, j, x, y),
-        Compared::Equal => put(
-            out,
-            0,
-            b"equal: the same timetables are possible on both boards\n",
-        ),
+fn put_answer<R: Env>(
+    rt: &R,
+    a: &[u32; BOARD_WORDS],
+    b: &[u32; BOARD_WORDS],
+    text: &mut Text<ROOM>,
+) {
+    match compare(a, b) {
+        Compared::FirstUnsound => put_unsound(rt, 1, text),
+        Compared::SecondUnsound => put_unsound(rt, 2, text),
+        Compared::Points(n, m) => {
+            let _ = writeln!(text, "different: {n} and {m} live points");
+        }
+        Compared::Entry(entry) => {
+            let _ = writeln!(
+                text,
+                "different: gap ({}, {}) is{} on the first board and{} on the second",
+                entry.row,
+                entry.column,
+                Gap(entry.first),
+                Gap(entry.second)
+            );
+            let _ = write!(text, "{}", Meaning { a, b, entry });
+        }
+        Compared::Equal => {
+            text.put(b"equal: the same timetables are possible on both boards\n");
+        }
     }
 }
 
-// Puts what it means where an entry differs, and else nothing.
-fn put_entry_meaning(
-    out: &mut [u8],
-    at: usize,
-    a: &[u32; BOARD_WORDS],
-    b: &[u32; BOARD_WORDS],
-    answer: Compared,
-) -> usize {
-    let Compared::Entry(row, column, first, second) = answer else {
-        return at;
-    };
-    put_meaning(
-        out,
-        at,
-        a,
-        b,
-        Entry {
-            row,
-            column,
-            first,
-            second,
-        },
-    )
-}
-
-fn put_unsound<R: Env>(rt: &R, out: &mut [u8], k: usize) -> usize {
-    let at = put_name(rt, out, k);
-    put(
-        out,
-        at,
+fn put_unsound<R: Env>(rt: &R, k: usize, text: &mut Text<ROOM>) {
+    put_name(rt, k, text);
+    text.put(
         b"the last board is not sound, so it stands for no timetables: let the log end on a sound board, such as an accepted fresh gives\n",
-    )
-}
-
-fn put_points(out: &mut [u8], n: u32, m: u32) -> usize {
-    let head = put(out, 0, b"different: ");
-    let first = put_number(out, head, n as u64);
-    let and = put(out, first, b" and ");
-    let second = put_number(out, and, m as u64);
-    put(out, second, b" live points\n")
-}
-
-fn put_entry(out: &mut [u8], i: u32, j: u32, x: u32, y: u32) -> usize {
-    let place = put_place(out, i, j);
-    let first = put_gap(out, place, x);
-    let and = put(out, first, b" on the first board and");
-    let second = put_gap(out, and, y);
-    put(out, second, b" on the second\n")
-}
-
-fn put_place(out: &mut [u8], i: u32, j: u32) -> usize {
-    let head = put(out, 0, b"different: gap (");
-    let row = put_number(out, head, i as u64);
-    let comma = put(out, row, b", ");
-    let column = put_number(out, comma, j as u64);
-    put(out, column, b") is")
+    );
 }

@@ -6,7 +6,6 @@ ghost use Rattle.std.specs.Prelude.{◌≡◌};
 ghost use Rattle.base_rulings.specs.Answer.{number_of};
 ghost use Rattle.read_offer.specs.Offer.{fact_check};
 
-use base_rulings::number;
 use read_offer::rule_facts;
 
 // 0, or the number of the first of refusals 1 to 4 and 7 to 13.
@@ -14,5 +13,5 @@ use read_offer::rule_facts;
 pub extern "C" fn sf_fact_check(plant: &[u8], offer: &[u8]) -> u32
     ensures { result ≡ number_of (fact_check plant.now offer.now) }
 {
-    number(rule_facts(plant, offer))
+    rule_facts(plant, offer).number()
 }

@@ -1,50 +1,112 @@
 // What a log shows of a board: its gap table, and all else. The board is lent as its words, and any number may stand in them, so that each
-// count is taken as no more than there are places for. It may use log_text, part_boardwords and the structs of its parts (spec_plain), and the bias of a
+// count is taken as no more than there are places for. It may use part_boardwords and the structs of its parts (spec_plain), and the bias of a
 // board's cells (part_gaps).
 #![tactic(auto)]
 
-ghost use Rattle.std.specs.Prelude.{◌≤◌, ◌<◌, ◌≡◌, length};
-ghost use Rattle.spec_plain.specs.Limits.{side, most_jobs, most_points, most_uses};
-ghost use Rattle.part_boardwords.specs.Layout.{board_size, line_end};
+ghost use Rattle.std.specs.Prelude.{Some, ◌∷◌, pos, ◌-ℤ◌, ◌≤◌, ◌<◌};
+ghost use Rattle.std.specs.Fmt.{signed_decimal};
+ghost use Rattle.spec_plain.specs.Limits.{most_jobs, most_points, resources};
 
-use log_text::{least, put, put_number};
 use part_boardwords::{BOARD_WORDS, cell_at, job_at, layout, line_start, use_at};
 use part_gaps::BIAS;
-use spec_plain::{Job, Use, limits};
-
-// Puts a blank and the number.
-pub fn put_next(out: &mut [u8], at: usize, n: u32) -> usize {
-    let blank = put(out, at, b" ");
-    put_number(out, blank, n as u64)
-}
+use spec_plain::limits;
+use std::fmt;
 
 // ---- the table
 
-// Puts `table N` and N rows of N gaps, where N counts the live points with the origin.
-pub fn put_table(out: &mut [u8], at: usize, w: &[u32; BOARD_WORDS]) -> usize {
-    let n = live(w) + 1;
-    let head = put(out, at, b"table");
-    let count = put_next(out, head, n as u32);
-    let end = put(out, count, b"\n");
-    put_rows(out, end, w, n)
+// A board as `table N` and N rows of N gaps, where N counts the live points with the origin.
+#[derive(Clone, Copy)]
+pub struct Table<'a>(pub &'a [u32; BOARD_WORDS]);
+
+impl<'a> fmt::Display for Table<'a> {
+    fn fmt<W: fmt::Write>(&self, f: &mut fmt::Formatter<W>) -> fmt::Result {
+        let w = self.0;
+        let n = live(w) + 1;
+        writeln!(f, "table {n}")?;
+        for i in 0..n {
+            write!(f, "t")?;
+            for j in 0..n {
+                let gap = Gap(cell_at(w, i, j));
+                write!(f, "{gap}")?;
+            }
+            writeln!(f)?;
+        }
+        Ok(())
+    }
 }
 
-// The live points beside the origin, at most 64. What is left of the 64 goes down, so that no sum can wrap.
+// A cell as a blank and the gap that it holds: the cell less the bias.
+#[derive(Clone, Copy)]
+pub struct Gap(pub u32);
+
+impl fmt::Display for Gap {
+    ghost output = { λ g. Some (32 ∷ signed_decimal (pos g.0 -ℤ pos 100000000)) };
+
+    fn fmt<W: fmt::Write>(&self, f: &mut fmt::Formatter<W>) -> fmt::Result {
+        write!(f, " {}", i64::from(self.0) - i64::from(BIAS))
+    }
+}
+
+// ---- the state
+
+// A board as `state CLOCK JOBS`, a row for each job, and one for each line that is not empty.
+#[derive(Clone, Copy)]
+pub struct State<'a>(pub &'a [u32; BOARD_WORDS]);
+
+impl<'a> fmt::Display for State<'a> {
+    fn fmt<W: fmt::Write>(&self, f: &mut fmt::Formatter<W>) -> fmt::Result {
+        let w = self.0;
+        let clock = w[layout::CLOCK_AT];
+        let n = job_count(w);
+        writeln!(f, "state {clock} {n}")?;
+        for k in 0..n {
+            let job = job_at(w, k);
+            let sent = u32::from(job.sent);
+            writeln!(f, "j {} {} {sent} {}", job.points, job.batch, job.due)?;
+        }
+        for resource in 0..limits::RESOURCES {
+            write_line(f, w, resource)?;
+        }
+        Ok(())
+    }
+}
+
+// Writes `l RESOURCE N` and N times `POINT OFFSET LENGTH`; nothing where the line is empty.
+fn write_line<W: fmt::Write>(
+    f: &mut fmt::Formatter<W>,
+    w: &[u32; BOARD_WORDS],
+    resource: usize,
+) -> fmt::Result
+    requires { resource < resources }
+{
+    let line = line_start(resource);
+    let n = within(w[line], limits::MOST_USES);
+    if n == 0 {
+        return Ok(());
+    }
+    write!(f, "l {resource} {n}")?;
+    for k in 0..n {
+        let u = use_at(w, line, k);
+        write!(f, " {} {} {}", u.point, u.offset, u.length)?;
+    }
+    writeln!(f)
+}
+
+// ---- counts
+
+// The live points beside the origin, at most 64.
 pub fn live(w: &[u32; BOARD_WORDS]) -> usize
     ensures { result ≤ most_points }
 {
-    let mut left = limits::MOST_POINTS;
-    let n = job_count(w);
-    for k in 0..n {
-        let job = job_at(w, k);
-        left -= least(job.points as usize, left);
+    let mut points = 0;
+    for k in 0..job_count(w) {
+        points = limits::MOST_POINTS.min(points + job_at(w, k).points as usize);
     }
-    limits::MOST_POINTS - left
+    points
 }
 
 // The jobs, at most 16.
-fn job_count(w: &[u32]) -> usize
-    requires { length w.now ≡ board_size }
+fn job_count(w: &[u32; BOARD_WORDS]) -> usize
     ensures { result ≤ most_jobs }
 {
     within(w[layout::COUNT_AT], limits::MOST_JOBS)
@@ -54,108 +116,5 @@ fn job_count(w: &[u32]) -> usize
 fn within(count: u32, most: usize) -> usize
     ensures { result ≤ most }
 {
-    least(count as usize, most)
-}
-
-fn put_rows(out: &mut [u8], at: usize, w: &[u32], n: usize) -> usize
-    requires { (length w.now ≡ board_size) × (n ≤ side) }
-{
-    let mut to = at;
-    for i in 0..n {
-        to = put_row(out, to, w, i, n);
-    }
-    to
-}
-
-fn put_row(out: &mut [u8], at: usize, w: &[u32], i: usize, n: usize) -> usize
-    requires { (length w.now ≡ board_size) × (i < side) × (n ≤ side) }
-{
-    let mut to = put(out, at, b"t");
-    for j in 0..n {
-        to = put_gap(out, to, cell_at(w, i, j));
-    }
-    put(out, to, b"\n")
-}
-
-// Puts a blank and the gap that a cell holds: the cell less the bias.
-pub fn put_gap(out: &mut [u8], at: usize, cell: u32) -> usize {
-    if cell < BIAS {
-        let sign = put(out, at, b" -");
-        return put_number(out, sign, (BIAS - cell) as u64);
-    }
-    put_next(out, at, cell - BIAS)
-}
-
-// ---- the state
-
-// Puts `state CLOCK JOBS`, a row for each job, and one for each line that is not empty.
-pub fn put_state(out: &mut [u8], at: usize, w: &[u32; BOARD_WORDS]) -> usize {
-    let head = put(out, at, b"state");
-    let clock = put_next(out, head, w[layout::CLOCK_AT]);
-    let end = put_jobs(out, clock, w);
-    put_lines(out, end, w)
-}
-
-fn put_jobs(out: &mut [u8], at: usize, w: &[u32]) -> usize
-    requires { length w.now ≡ board_size }
-{
-    let n = job_count(w);
-    let count = put_next(out, at, n as u32);
-    let mut to = put(out, count, b"\n");
-    for k in 0..n {
-        to = put_job(out, to, job_at(w, k));
-    }
-    to
-}
-
-// Puts `j POINTS BATCH SENT DUE`.
-fn put_job(out: &mut [u8], at: usize, job: Job) -> usize {
-    let head = put(out, at, b"j");
-    let points = put_next(out, head, job.points);
-    let batch = put_next(out, points, job.batch);
-    let sent = put_next(out, batch, job.sent as u32);
-    let due = put_next(out, sent, job.due);
-    put(out, due, b"\n")
-}
-
-fn put_lines(out: &mut [u8], at: usize, w: &[u32]) -> usize
-    requires { length w.now ≡ board_size }
-{
-    let mut to = at;
-    for k in 0..limits::RESOURCES {
-        to = put_line(out, to, k as u32, w, line_start(k));
-    }
-    to
-}
-
-// Puts `l RESOURCE N` and N times `POINT OFFSET LENGTH`, of the line at word `from`; nothing where the line is empty.
-fn put_line(out: &mut [u8], at: usize, resource: u32, w: &[u32], from: usize) -> usize
-    requires { line_end from ≤ length w.now }
-{
-    let n = within(w[from], limits::MOST_USES);
-    if n == 0 {
-        return at;
-    }
-    let head = put(out, at, b"l");
-    let name = put_next(out, head, resource);
-    let count = put_next(out, name, n as u32);
-    let end = put_uses(out, count, w, from, n);
-    put(out, end, b"\n")
-}
-
-fn put_uses(out: &mut [u8], at: usize, w: &[u32], from: usize, n: usize) -> usize
-    requires { (line_end from ≤ length w.now) × (n ≤ most_uses) }
-{
-    let mut to = at;
-    for k in 0..n {
-        let u = use_at(w, from, k);
-        to = put_use(out, to, u);
-    }
-    to
-}
-
-fn put_use(out: &mut [u8], at: usize, u: Use) -> usize {
-    let point = put_next(out, at, u.point);
-    let offset = put_next(out, point, u.offset);
-    put_next(out, offset, u.length)
+    most.min(count as usize)
 }

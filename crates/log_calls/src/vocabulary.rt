@@ -1,9 +1,7 @@
 // The words that a line can begin with.
 ghost use Rattle.log_calls.specs.Vocabulary.{Says};
 
-use check::same;
-
-#[derive(Clone, Copy)]
+#[derive(Clone, Copy, Debug, PartialEq, Eq)]
 pub enum Word {
     List,
     Plant,
@@ -20,78 +18,41 @@ pub enum Word {
     Table,
     State,
     Write,
-    Unknown,
 }
 
-pub fn word_of(s: &[u8]) -> Word
+// The word that is written so, if there is one.
+pub fn word_of(s: &[u8]) -> Option<Word>
     ensures { Says s.now result }
 {
-    if same(s, b"list") {
-        return Word::List;
-    }
-    if same(s, b"plant") {
-        return Word::Plant;
-    }
-    if same(s, b"check") {
-        return Word::Check;
-    }
-    if same(s, b"part") {
-        return Word::Part;
-    }
-    if same(s, b"fact") {
-        return Word::Fact;
-    }
-    if same(s, b"fresh") {
-        return Word::Fresh;
-    }
-    if same(s, b"board") {
-        return Word::Board;
-    }
-    if same(s, b"plan") {
-        return Word::Plan;
-    }
-    if same(s, b"send") {
-        return Word::Send;
-    }
-    if same(s, b"clock") {
-        return Word::Clock;
-    }
-    if same(s, b"retire") {
-        return Word::Retire;
-    }
-    if same(s, b"report") {
-        return Word::Report;
-    }
-    if same(s, b"table") {
-        return Word::Table;
-    }
-    if same(s, b"state") {
-        return Word::State;
-    }
-    if same(s, b"write") {
-        return Word::Write;
-    }
-    Word::Unknown
-}
-
-// How many words follow the first, on a line with so many blanks. After an unknown word any number will do, so
-// that the fault that is named is the word; and how many a written plant has is told by its numbers.
-pub fn arguments(word: Word, blanks: usize) -> usize {
-    match word {
-        Word::Check => 0,
-        Word::Retire => 0,
-        Word::Table => 0,
-        Word::State => 0,
-        Word::Fresh => 2,
-        Word::Write => two_or_more(blanks),
-        Word::Unknown => blanks,
-        _ => 1,
+    match s {
+        b"list" => Some(Word::List),
+        b"plant" => Some(Word::Plant),
+        b"check" => Some(Word::Check),
+        b"part" => Some(Word::Part),
+        b"fact" => Some(Word::Fact),
+        b"fresh" => Some(Word::Fresh),
+        b"board" => Some(Word::Board),
+        b"plan" => Some(Word::Plan),
+        b"send" => Some(Word::Send),
+        b"clock" => Some(Word::Clock),
+        b"retire" => Some(Word::Retire),
+        b"report" => Some(Word::Report),
+        b"table" => Some(Word::Table),
+        b"state" => Some(Word::State),
+        b"write" => Some(Word::Write),
+        _ => None,
     }
 }
 
-fn two_or_more(blanks: usize) -> usize {
-    if blanks < 2 {
-        return 2;
+impl Word {
+    // The fewest and the most words that follow the first. Of `write` no number is the most, and so it is the largest there is: how many actions a
+    // written plant has is told by its numbers.
+    pub fn arguments(self) -> (usize, usize) {
+        match self {
+            Word::Check | Word::Retire | Word::Table | Word::State => (0, 0),
+            Word::Fresh => (2, 2),
+            Word::Write => (2, usize::MAX),
+            _ => (1, 1),
+        }
     }
-    blanks
 }

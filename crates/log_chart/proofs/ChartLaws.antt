@@ -1,45 +1,39 @@
 -- Laws of the chart's loops, each as the loop needs it: the whole run equals the rest of the run from here.
 --   job_here, job_on, job_end      the search for a point's job: k more points on from the job at `place`
---   glyph_digit, glyph_letter        the mark of a job
---   mark_over, mark_left             a use that covers a column, and one that does not
 --   mark_next, mark_end              the mark of a column, use by use
 --   first_next, last_next            the least and the largest time, point by point
 --   end_next, end_done, lines_next, lines_done   the last end, use by use and line by line
---   width_fits, width_next, width_done   the search for the width;  width_sized: each width is small and not 0
---   fits_is, scale_is                a test and a scale, from the answers of the functions below
---   column_is                        the column of a time;  column_most: 80 columns fit a sum
+--   first_found, width_small         the width that is found, and that it is one
+--   scale_is                         a scale, from the answers of the functions below
 --   job_some                         each job has a point
---   use_low                          a use that is read names a point of the table
 --   on_table                         the lines of the words of a sound board name points of the table
-use Prim.Native.Nat.{ℕ, suc, ◌+◌, ◌-◌, ◌*◌, ◌/◌, ◌≤◌, ◌<◌, min, max}
+use Prim.Native.Nat.{ℕ, ◌+◌, ◌-◌, ◌≤◌, ◌<◌, min, max}
 use mathlib.Core.Path.{◌≡◌, refl, sym, ◌∙◌, ap, subst}
-use mathlib.Core.Bool.{Bool, true, false, cond, ◌&&◌}
+use mathlib.Core.Bool.{Bool, true, false, cond}
 use mathlib.Core.List.{List, [], ◌∷◌}
 use native.Mathlib.Omega.{arith}
-use native.Mathlib.Nat.{mul-le-mul}
 use native.Mathlib.Numerals.{add-one}
-use lib.Dec.{leb, ltb}
 use lib.ListN.{length, get_or, drop, drop_of_length-le}
 use lib.Seq.{drop-cons, get_or-take}
-use borrow.Author.Tests.{le-leb, lt-leb, lt-ltb, le-ltb, leb-true}
+use borrow.Author.Tests.{le-leb, lt-leb}
+use Rattle.std.specs.List.{find}
+use Rattle.std.specs.Option.{unwrap_or}
+use Rattle.std.proofs.Common.{rules}
 use Rattle.spec_plain.specs.Limits.{most_jobs, most_points, resources, most_uses}
 use Rattle.spec_plain.specs.declared.Job.{Job}
 use Rattle.spec_plain.specs.declared.Use.{Use}
 use Rattle.spec_plain.specs.Plain.{no_use}
 use Rattle.part_lines.specs.declared.Line.{Line}
 use Rattle.part_lines.specs.ArrayLists.{jobs_of, line_of, no_job, no_line}
-use Rattle.base_lists.specs.Loops.{all_below}
 use Rattle.base_lists.specs.All.{All}
 use Rattle.base_lists.proofs.All.{all_at, all_get, all_map}
-use Rattle.base_lists.proofs.AllBelow.{both_true, all_below_to}
 use Rattle.spec_stn.specs.Table.{Table, earliest}
 use Rattle.base_lists.proofs.Build.{build_at}
 use Rattle.part_boardwords.specs.Layout.{count_at, line_start}
 use Rattle.part_boardwords.specs.Words.{Words, job_at, held_jobs, use_at, uses_read, line_at, board_read}
 use Rattle.part_boardwords.proofs.Boards.{held_jobs_lem, held_job}
 use Rattle.part_sound.specs.Sound.{Sound, SizedJob, SizedUse, points_of}
-use Rattle.log_chart.specs.declared.scale.Scale.{Scale}
-use Rattle.log_chart.specs.Chart.{OnTable, AllOnTable, begin_of, column_of, covers, end_time, first_fit, first_time, fits, glyph_of, job_of}
+use Rattle.log_chart.specs.Chart.{AllOnTable, begin_of, covers, end_time, first_fit, first_time, fits, glyph_of, job_of}
 use Rattle.log_chart.specs.Chart.{last_end, last_time, left_of, lines_end, glyph_over, right_of, scale_of, scaled, width_of, widths}
 
 -- ---- whose a point is
@@ -65,18 +59,6 @@ module _ (js : List Job) (x place k : ℕ) (left : job_of js x ≡ place + job_o
   job_end over = sym (left ∙ ap (λ (r : List Job). place + job_of r k) over ∙ omega arith)
 
 -- ---- the mark of a column
-
-pub glyph_digit : (k : ℕ) → k < 10 → 48 + k ≡ glyph_of k
-glyph_digit k h = rw (lt-ltb k 10 h)
-
-pub glyph_letter : (k : ℕ) → 10 ≤ k → 87 + k ≡ glyph_of k
-glyph_letter k h = rw (le-ltb k 10 h)
-
-pub mark_over : (b : Bool) (mark m r : ℕ) → b ≡ true → r ≡ mark → r ≡ cond b mark m
-mark_over b mark m r t e = rw t e
-
-pub mark_left : (b : Bool) (mark m : ℕ) → b ≡ false → m ≡ cond b mark m
-mark_left b mark m t = rw t
 
 module _ (c : Table) (js : List Job) (us : List Use) (p q z k m : ℕ) (run : glyph_over c js (drop k us) p q m ≡ glyph_over c js us p q z) where
   pub mark_next :
@@ -126,38 +108,31 @@ module _ (c : Table) (ls : List Line) (t k m : ℕ) (run : lines_end c (drop k l
 
 -- ---- the width
 
-abbrev sized : ℕ → Bool
-sized k = leb 1 (get_or widths k 0) && leb (get_or widths k 0) 2000000
+abbrev pub IsWidth : ℕ → Type 0
+IsWidth w = (1 ≤ w) × (w ≤ 2000000)
 
-pub width_sized : (k : ℕ) → k < 20 → (1 ≤ get_or widths k 0) × (get_or widths k 0 ≤ 2000000)
-unfolding all_below
-width_sized k h =
-    let p = both_true (leb 1 (get_or widths k 0)) (leb (get_or widths k 0) 2000000) (all_below_to sized 20 refl k h) in
-    (leb-true 1 (get_or widths k 0) p.0, leb-true (get_or widths k 0) 2000000 p.1)
-
-module _ (l r k : ℕ) (run : first_fit l r (drop k widths) ≡ width_of l r) where
-  pub width_fits : (w : ℕ) → k < 20 → w ≡ get_or widths k 0 → fits l r w ≡ true → w ≡ width_of l r
+module _ (l r : ℕ) where
+  pub first_found : (ws : List ℕ) → unwrap_or (find (λ w. fits l r w) ws) 2000000 ≡ first_fit l r ws
   unfolding first_fit
-  width_fits w h e t =
-      let here : first_fit l r (w ∷ drop (suc k) widths) ≡ w = rw t in
-      sym here ∙ ap (λ (v : ℕ). first_fit l r (v ∷ drop (suc k) widths)) e ∙ sym (ap (first_fit l r) (drop-cons widths k 0 h)) ∙ run
+  first_found [] = refl
+  first_found (w ∷ ws) = go (fits l r w) refl (first_found ws)
+    where
+      go : (t : Bool) → fits l r w ≡ t → unwrap_or (find (λ w. fits l r w) ws) 2000000 ≡ first_fit l r ws
+          → unwrap_or (find (λ w. fits l r w) (w ∷ ws)) 2000000 ≡ first_fit l r (w ∷ ws)
+      go true e rest = rw e
+      go false e rest = rw e rest
 
-  pub width_next : (w : ℕ) → k < 20 → w ≡ get_or widths k 0 → fits l r w ≡ false → first_fit l r (drop (k + 1) widths) ≡ width_of l r
+  first_within : (ws : List ℕ) → All IsWidth ws → IsWidth (first_fit l r ws)
   unfolding first_fit
-  width_next w h e t =
-      let on : first_fit l r (w ∷ drop (suc k) widths) ≡ first_fit l r (drop (suc k) widths) = rw t in
-      ap (λ (i : ℕ). first_fit l r (drop i widths)) (add-one k)
-      ∙ sym on
-      ∙ ap (λ (v : ℕ). first_fit l r (v ∷ drop (suc k) widths)) e
-      ∙ sym (ap (first_fit l r) (drop-cons widths k 0 h))
-      ∙ run
+  first_within [] all = (omega arith, omega arith)
+  first_within (w ∷ ws) all = go (fits l r w) refl (first_within ws all.1)
+    where
+      go : (t : Bool) → fits l r w ≡ t → IsWidth (first_fit l r ws) → IsWidth (first_fit l r (w ∷ ws))
+      go true e rest = rw e all.0
+      go false e rest = rw e rest
 
-  pub width_done : 20 ≤ k → 2000000 ≡ width_of l r
-  unfolding first_fit
-  width_done h = sym (ap (first_fit l r) (drop_of_length-le widths h)) ∙ run
-
-pub fits_is : (l r w b : ℕ) → b ≡ begin_of l w → ltb r (b + 80 * w) ≡ fits l r w
-fits_is l r w b e = ap (λ (n : ℕ). ltb r (n + 80 * w)) e
+  pub width_small : IsWidth (width_of l r)
+  width_small = first_within widths (search (rules, arith))
 
 pub scale_is :
     (c : Table) (n : ℕ) (ls : List Line) (clock now left last right w b : ℕ)
@@ -170,12 +145,6 @@ scale_is c n ls clock now left last right w b time first_is last_is end_is width
     let column_is : w ≡ width_of (left_of c n clock) (right_of c n ls clock) = width_is ∙ (λ i. width_of (left_is i) (right_is i)) in
     (λ i. record { begin = begin-is i; end = right; column = w }) ∙ (λ i. scaled (left_is i) (right_is i) (column_is i))
 
-pub column_is : (s : Scale) (t d r : ℕ) → d ≡ t - s.begin → r ≡ min (d / s.column) 79 → r ≡ column_of s t
-column_is s t d r e h = h ∙ ap (λ (m : ℕ). min (m / s.column) 79) e
-
-pub column_most : (k w : ℕ) → k ≤ 80 → w ≤ 2000000 → k * w ≤ 160000000
-column_most k w h v = mul-le-mul h v
-
 -- ---- a sound board
 
 pub job_some :
@@ -184,9 +153,6 @@ job_some w H few all k j lt e =
     let sized = all_at (SizedJob H) (jobs_of (held_jobs w)) no_job all k (omega (arith, held_jobs_lem w few)) in
     let least : 2 ≤ (job_at w k).points = rw (held_job w few k lt) at sized.least in
     omega (arith, least, ap (λ (i : Job). i.points) e)
-
-pub use_low : {w : Words} {at k : ℕ} {u : Use} → OnTable w at → k < w at → u ≡ use_at w at k → u.point ≤ most_points
-use_low {k = k} {u = u} on h e = omega (arith, on.points k h, ap (λ (x : Use). x.point) e)
 
 pub on_table : (w : Words) → Sound (board_read w) → AllOnTable w
 on_table w s k lt =

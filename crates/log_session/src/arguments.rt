@@ -1,9 +1,11 @@
 // The arguments of the program, as bytes.
-ghost use Rattle.std.specs.Prelude.{◌≤◌, length};
-
+use log_text::Text;
 use std::env::{Env, FillError};
 
-// How many there are, the program's own name among them.
+// The longest argument that is read, in bytes.
+const MOST_BYTES: usize = 4096;
+
+// How many there are, the program's own name among them. A proved loop has to end, and no program has `usize::MAX` of them.
 pub fn argument_count<R: Env>(rt: &R) -> usize {
     let mut first = [0u8; 1];
     for k in 0..usize::MAX {
@@ -14,12 +16,12 @@ pub fn argument_count<R: Env>(rt: &R) -> usize {
     usize::MAX
 }
 
-// Puts argument k at the start of buf and says how many bytes it has, or 0 where it is missing or longer than buf.
-pub fn argument<R: Env>(rt: &R, k: usize, buf: &mut [u8]) -> usize
-    ensures { result ≤ length buf.new }
-{
-    match rt.arg(k, buf) {
-        Ok(n) => n,
-        Err(_) => 0,
+// Argument k, or nothing where it is missing or too long.
+pub fn argument<R: Env>(rt: &R, k: usize) -> Text<MOST_BYTES> {
+    let mut bytes = [0u8; MOST_BYTES];
+    let mut text = Text::new();
+    if let Ok(n) = rt.arg(k, &mut bytes) {
+        text.put(&bytes[..n]);
     }
+    text
 }

@@ -1,105 +1,98 @@
 // Lines of the input. It is read in chunks, and each line is gathered from as many as it lies in.
 ghost use Rattle.std.specs.Prelude.{◌≤◌, length};
 
-use log_text::{find, least, put};
+use log_text::{Text, find};
 use std::io::Read;
 
-// What taking a line found: a line of so many bytes, one for which there is no room, the end of the input, or
-// that the input cannot be read.
-#[derive(Clone, Copy)]
-pub enum Found {
-    Whole(usize),
+// How many bytes are read at once.
+const MOST_READ: usize = 65536;
+
+// A line has fewer bytes.
+const LINE_ROOM: usize = 65536;
+
+// Why there is no line: there is no room for it, or the input cannot be read.
+#[derive(Clone, Copy, Debug, PartialEq, Eq)]
+pub enum LineError {
     TooLong,
-    End,
-    Failed,
+    Unreadable,
 }
 
-// The line, and the bytes of the chunk that are left for the next one: those from `from` on, before `to`.
-#[derive(Clone, Copy)]
-pub struct Taken {
-    pub line: Found,
-    pub from: usize,
-    pub to: usize,
-}
-
-// The bytes of a chunk that are there to use, none where the input has ended or the read failed.
-#[derive(Clone, Copy)]
-pub struct Chunk {
-    pub from: usize,
-    pub to: usize,
-    pub failed: bool,
-}
-
-// Takes the next line into `line`, without its end. The last line need not have one. A line as long as the
-// buffer counts as too long.
-pub fn take_line<R: Read>(
-    input: &mut R,
-    chunk: &mut [u8],
-    line: &mut [u8],
+// What one read brought: the bytes from `from` on and before `to` are still to be used.
+#[derive(Drop)]
+struct Chunk {
+    bytes: [u8; MOST_READ],
     from: usize,
     to: usize,
-) -> Taken {
-    let mut left = from;
-    let mut end = to;
-    let mut at: usize = 0;
-    loop {
-        let more = refill(input, chunk, left, end);
-        left = more.from;
-        end = more.to;
-        if left == end {
-            return with_rest(last_line(at, more.failed), end, end);
-        }
-        let n = find(&chunk[left..end], b'\n');
-        if line.len() - at <= n {
-            return with_rest(Found::TooLong, end, end);
-        }
-        let stop = left + n;
-        put(line, at, &chunk[left..stop]);
-        at = at + n;
-        if stop < end {
-            return with_rest(Found::Whole(at), stop + 1, end);
-        }
-        left = end;
-    }
+    ghost within: { (from ≤ to) × (to ≤ 65536) },
 }
 
-// The unread bytes of the chunk or, where there are none, those that one read brings.
-fn refill<R: Read>(input: &mut R, chunk: &mut [u8], from: usize, to: usize) -> Chunk
-    ensures { (result.from ≤ result.to) × (result.to ≤ length chunk.new) }
-{
-    let end = least(to, chunk.len());
-    if from < end {
-        return Chunk {
-            from,
-            to: end,
-            failed: false,
-        };
-    }
-    match input.read(chunk) {
-        Ok(to) => Chunk {
-            from: 0,
-            to,
-            failed: false,
-        },
-        Err(_) => Chunk {
+impl Chunk {
+    fn new() -> Chunk {
+        Chunk {
+            bytes: [0; MOST_READ],
             from: 0,
             to: 0,
-            failed: true,
-        },
+        }
+    }
+
+    // The bytes that are left or, where none are, those that one more read brings: none where the input has ended.
+    fn refill<R: Read>(&mut self, input: &mut R) -> Result<&[u8], LineError> {
+        if self.from == self.to {
+            self.to = input
+                .read(&mut self.bytes)
+                .map_err(|_| LineError::Unreadable)?;
+            self.from = 0;
+        }
+        Ok(&self.bytes[self.from..self.to])
+    }
+
+    // The first n of them are used.
+    fn skip(&mut self, n: usize) {
+        self.from += n.min(self.to - self.from);
     }
 }
 
-// What is taken where the input gives no more: the bytes after the last line end, if there are any.
-fn last_line(at: usize, failed: bool) -> Found {
-    if failed {
-        return Found::Failed;
-    }
-    if at == 0 {
-        return Found::End;
-    }
-    Found::Whole(at)
+// The lines of what is read from `input`, one after the other.
+#[derive(Drop)]
+pub struct Lines<R> {
+    input: R,
+    chunk: Chunk,
+    line: Text<LINE_ROOM>,
 }
 
-fn with_rest(line: Found, from: usize, to: usize) -> Taken {
-    Taken { line, from, to }
+impl<R: Read> Lines<R> {
+    pub fn new(input: R) -> Lines<R> {
+        Lines {
+            input,
+            chunk: Chunk::new(),
+            line: Text::new(),
+        }
+    }
+
+    // The next line, without its end; none behind the last. The last line need not have an end.
+    pub fn next_line(&mut self) -> Result<Option<&[u8]>, LineError> {
+        self.line.clear();
+        // A proved loop has to end, and each turn takes a byte at least: no line uses the turns up.
+        for _ in 0..u64::MAX {
+            let unread = self.chunk.refill(&mut self.input)?;
+            if unread.is_empty() {
+                break;
+            }
+            let end = find(unread, b'\n');
+            let piece = &unread[..end.unwrap_or(unread.len())];
+            if LINE_ROOM - self.line.len() <= piece.len() {
+                return Err(LineError::TooLong);
+            }
+            self.line.put(piece);
+            let used = piece.len() + 1;
+            self.chunk.skip(used);
+            if end.is_some() {
+                return Ok(Some(self.line.as_bytes()));
+            }
+        }
+        if self.line.len() == 0 {
+            return Ok(None);
+        }
+        Ok(Some(self.line.as_bytes()))
+    }
 }

@@ -25,7 +25,7 @@ abbrev pub is_equal : Compared → Bool
 is_equal FirstUnsound = false
 is_equal SecondUnsound = false
 is_equal (Points n m) = false
-is_equal (Entry i j x y) = false
+is_equal (Entry e) = false
 is_equal Equal = true
 
 module _ (l m : List ℕ) (long : length l ≡ length m) where

@@ -1,5 +1,5 @@
 -- Laws of what shows how two boards differ (specs/Witness), over plain variables.
---   none_yet, one_more     the loop's count: no cell yet; one cell more.  counted_same, counted_other: what one cell adds;  few: no more than the cells
+--   none_yet               the loop's count: no cell yet;  same_more, other_more: one cell more, which is the same or another;  few: no more than the cells
 --   none_alike, alike_none no cell is counted exactly when the cells are alike
 --   first_uncounted, second_uncounted, all_counted   the answers of `differences`, of words that are lent
 --   on_first, on_second    those of `witness_on`
@@ -28,21 +28,18 @@ use Rattle.log_tables.proofs.Differences.{Alike, alike_next}
 
 -- ---- cells that differ
 
-pub counted_same : (n x y : ℕ) → x ≡ y → n ≡ cond (eqb x y) n (suc n)
-counted_same n x y e = rw (eq-eqb x y e) refl
-
-pub counted_other : (n x y : ℕ) → (x ≡ y → ⊥) → n + 1 ≡ cond (eqb x y) n (suc n)
-counted_other n x y d = rw (ne_eqb x y d) (add-one n)
-
 module _ (l m : List ℕ) where
   pub none_yet : 0 ≡ differing l m 0
   unfolding differing
   none_yet = refl
 
-  pub one_more :
-      (k n r q : ℕ) → n ≡ differing l m k → r ≡ cond (eqb (get_or l k 0) (get_or m k 0)) n (suc n) → q ≡ k + 1 → r ≡ differing l m q
+  pub same_more : (k n : ℕ) → n ≡ differing l m k → get_or l k 0 ≡ get_or m k 0 → n ≡ differing l m (k + 1)
   unfolding differing
-  one_more k n r q e f next = rw (next ∙ add-one k, ← e) f
+  same_more k n e same = rw (add-one k, eq-eqb (get_or l k 0) (get_or m k 0) same) e
+
+  pub other_more : (k n : ℕ) → n ≡ differing l m k → (get_or l k 0 ≡ get_or m k 0 → ⊥) → n + 1 ≡ differing l m (k + 1)
+  unfolding differing
+  other_more k n e other = rw (add-one k, ne_eqb (get_or l k 0) (get_or m k 0) other) (add-one n ∙ ap suc e)
 
   pub few : (n : ℕ) → differing l m n ≤ n
   unfolding differing

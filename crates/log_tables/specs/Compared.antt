@@ -10,7 +10,7 @@ use Rattle.spec_plain.specs.Limits.{side}
 use Rattle.part_boardwords.specs.Board.{Board}
 use Rattle.part_sound.specs.Sound.{points_of, sound}
 use Rattle.log_tables.specs.declared.Compared.{Compared}
-use Rattle.log_tables.specs.declared.Compared.TheVariants.{FirstUnsound, SecondUnsound, Points, Entry, Equal}
+use Rattle.log_tables.specs.declared.Compared.TheVariants.{FirstUnsound, SecondUnsound, Points, Entry as EntryAnswer, Equal}
 
 unfoldable pub first_difference : List ℕ → List ℕ → ℕ
 first_difference [] m = 0
@@ -18,7 +18,7 @@ first_difference (x ∷ l) [] = 0
 first_difference (x ∷ l) (y ∷ m) = cond (eqb x y) (suc (first_difference l m)) 0
 
 abbrev pub entry_at : List ℕ → List ℕ → ℕ → Compared
-entry_at l m k = Entry (k / side) (k % side) (get_or l k 0) (get_or m k 0)
+entry_at l m k = EntryAnswer (record { row = k / side; column = k % side; first = get_or l k 0; second = get_or m k 0 })
 
 unfoldable pub compared_cells : List ℕ → List ℕ → Compared
 compared_cells l m = cond (ltb (first_difference l m) (length l)) (entry_at l m (first_difference l m)) Equal

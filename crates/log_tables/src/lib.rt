@@ -10,7 +10,7 @@ ghost use Rattle.spec_plain.specs.Limits.{cell_count};
 ghost use Rattle.part_boardwords.specs.Layout.{board_size};
 ghost use Rattle.part_boardwords.specs.Words.{board_in, lent_board};
 ghost use Rattle.part_sound.specs.Sound.{sound};
-ghost use Rattle.log_tables.specs.Compared.{first_difference, compared_cells, compared};
+ghost use Rattle.log_tables.specs.Compared.{compared_cells, compared};
 
 use part_boardwords::layout;
 use part_jobwords::points_in;
@@ -18,15 +18,23 @@ use part_sound::is_sound;
 pub use showing::{Which, count_differences, witness_on, witness_time};
 use spec_plain::limits;
 
-#[derive(Clone, Copy)]
+// The first entry that differs: its row and column, and the cell of each board.
+#[derive(Clone, Copy, Debug, PartialEq, Eq)]
+pub struct Entry {
+    pub row: u32,
+    pub column: u32,
+    pub first: u32,
+    pub second: u32,
+}
+
+#[derive(Clone, Copy, Debug, PartialEq, Eq)]
 pub enum Compared {
     // The first board is not sound, or the second.
     FirstUnsound,
     SecondUnsound,
     // The live points of the two, with the origin: they are not as many.
     Points(u32, u32),
-    // The first entry that differs: its row and column, and the cell of each board.
-    Entry(u32, u32, u32, u32),
+    Entry(Entry),
     Equal,
 }
 
@@ -56,31 +64,18 @@ fn compare_sound(a: &[u32], b: &[u32]) -> Compared
     compare_cells(&a[layout::CELLS_AT..], &b[layout::CELLS_AT..])
 }
 
+// The first cell that differs, in row order.
 fn compare_cells(a: &[u32], b: &[u32]) -> Compared
     requires { (length a.now ≡ cell_count) × (length b.now ≡ cell_count) }
     ensures { result ≡ compared_cells a.now b.now }
 {
-    let k = first_difference(a, b);
-    if limits::CELLS <= k {
-        return Compared::Equal;
+    match (0..a.len()).find(|k| a[*k] != b[*k]) {
+        None => Compared::Equal,
+        Some(k) => Compared::Entry(Entry {
+            row: (k / limits::SIDE) as u32,
+            column: (k % limits::SIDE) as u32,
+            first: a[k],
+            second: b[k],
+        }),
     }
-    Compared::Entry(
-        (k / limits::SIDE) as u32,
-        (k % limits::SIDE) as u32,
-        a[k],
-        b[k],
-    )
-}
-
-// The place of the first cell that differs, and the number of cells where none does.
-fn first_difference(a: &[u32], b: &[u32]) -> usize
-    requires { (length a.now ≡ cell_count) × (length b.now ≡ cell_count) }
-    ensures { result ≡ first_difference a.now b.now }
-{
-    for k in 0..limits::CELLS {
-        if a[k] != b[k] {
-            return k;
-        }
-    }
-    limits::CELLS
 }

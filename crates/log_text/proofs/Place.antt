@@ -3,17 +3,20 @@
 --   placed_over     the same, where that part is no longer than what is written
 --   written_none    nothing is written by leaving the buffer as it is
 --   written_start   the same, with the place as the code has it
+--   written_in_calls   what `write!` writes, in one call after another, is written as a whole
 --   written_more    two writings, one after the other, are one of both texts, also where there is no room for all
 use Prim.Native.Nat.{ℕ, ◌+◌, ◌-◌, ◌≤◌, ◌<◌, min}
 use mathlib.Core.Path.{◌≡◌, refl, sym, ◌∙◌}
 use mathlib.Core.Bool.{Bool, true, false}
-use mathlib.Core.List.{List, [], ◌++◌, append_assoc, append-nil}
+use mathlib.Core.List.{List, [], ◌∷◌, ◌++◌, append_assoc, append-nil}
 use native.Mathlib.Omega.{arith}
 use native.Mathlib.Nat.{add_assoc, add-zero}
 use lib.Dec.{leb}
 use borrow.Author.Tests.{leb-true, leb-false}
 use lib.ListN.{length, take, drop, length-append, length-drop, drop_of_length-le}
 use lib.Seq.{paste, paste-zero, length-paste, take-paste, drop-paste, take_all, take-length, take-append-le, take-append-add, drop-drop}
+use Rattle.std.specs.List.{FoldsTo, concat}
+use Rattle.std.specs.Fmt.{WritesInCalls}
 use Rattle.log_text.specs.Written.{Written, fitting, start_at}
 
 -- n bytes of s are written into the rest of the buffer, which is then new
@@ -150,3 +153,19 @@ written_more before s mid t after at m end a b =
 pub written_start : (before : List ℕ) (at start : ℕ) → start ≡ min at (length before) → Written before at [] before start
 unfolding start_at
 written_start before at start e = rw e (written_none before at)
+
+-- a text ends within its memory, and it does so behind what was written
+written_within : (before s after : List ℕ) (at end : ℕ) → Written before at s after end → end ≤ length after
+written_within before s after at end w = rw (w.place, w.bytes, first_long before s at) (end_within before s at)
+
+-- each call of `write_str` writes what it is given
+module _ {W : Type 0} (took : W → List ℕ → W → Type 0) (bytes : W → List ℕ) (len : W → ℕ)
+    (each : (w : W) (s : List ℕ) (v : W) → took w s v → Written (bytes w) (len w) s (bytes v) (len v)) where
+  in_calls : (w : W) (parts : List (List ℕ)) (v : W) → len w ≤ length (bytes w) → FoldsTo took w parts v → Written (bytes w) (len w) (concat parts) (bytes v) (len v)
+  in_calls w [] v h c = rw (← c) (written_start (bytes w) (len w) (len w) (omega arith))
+  in_calls w (x ∷ xs) v h c =
+      let first = each w x c.0 c.1 in
+      written_more _ _ _ _ _ _ _ _ first (in_calls c.0 xs v (written_within _ _ _ _ _ first) c.2)
+
+  pub written_in_calls : (w : W) (s : List ℕ) (v : W) → len w ≤ length (bytes w) → WritesInCalls took w s v → Written (bytes w) (len w) s (bytes v) (len v)
+  written_in_calls w s v h c = rw (← c.whole) (in_calls w c.parts v h c.calls)

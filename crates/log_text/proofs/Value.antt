@@ -13,7 +13,7 @@ use borrow.Author.Tests.{eqb-true, eqb-false, lt-leb, le-leb}
 use Rattle.base_lists.specs.Loops.{all_below}
 use Rattle.base_lists.proofs.AllBelow.{all_below_fails}
 use Rattle.log_text.specs.Decimal.{digit_at, digits_read, is_digit, value_to}
-use Rattle.log_text.specs.declared.number.Number.TheVariants.{Value, Bad}
+use Rattle.std.specs.Prelude.{Some, None}
 
 pub value_none : (s : List ℕ) → value_to s 0 ≡ 0
 unfolding value_to
@@ -37,16 +37,16 @@ value_grows s m (suc n) h = go (λ l. value_grows s m n l) (eqb m (suc n)) refl
     go ih false e = omega (arith, ih (omega (arith, eqb-false m (suc n) e)))
 
 -- a byte that is no digit
-pub no_digit : (s : List ℕ) (k : ℕ) → k < length s → is_digit (get_or s k 0) ≡ false → Bad ≡ digits_read s
+pub no_digit : (s : List ℕ) (k : ℕ) → k < length s → is_digit (get_or s k 0) ≡ false → None ≡ digits_read s
 unfolding digits_read
 no_digit s k h e = rw (← all_below_fails (digit_at s) (length s) k h e)
 
 -- a first part that already spells too large a number
-pub too_large : (s : List ℕ) (n : ℕ) → n ≤ length s → 4294967295 < value_to s n → Bad ≡ digits_read s
+pub too_large : (s : List ℕ) (n : ℕ) → n ≤ length s → 4294967295 < value_to s n → None ≡ digits_read s
 unfolding digits_read
 too_large s n h e =
     rw (lt-leb (value_to s (length s)) 4294967295 (omega (arith, value_grows s n (length s) h)), and-false (all_below (digit_at s) (length s)))
 
-pub all_digits : (s : List ℕ) → all_below (digit_at s) (length s) ≡ true → value_to s (length s) ≤ 4294967295 → Value (value_to s (length s)) ≡ digits_read s
+pub all_digits : (s : List ℕ) → all_below (digit_at s) (length s) ≡ true → value_to s (length s) ≤ 4294967295 → Some (value_to s (length s)) ≡ digits_read s
 unfolding digits_read
 all_digits s e h = rw (e, le-leb (value_to s (length s)) 4294967295 h)

@@ -1,5 +1,5 @@
 -- Bytes as hex: two lower-case digits for each byte, and `-` for no bytes. Assumes nothing.
---   digit_value b        the value of a hex digit, and 16 for any other byte
+--   digit_value b        the value of a hex digit, and 16 for any other byte;  digit_of b: the same, and none for any other byte
 --   pair_at s k          byte k has two hex digits, of the values high_at s k and low_at s k
 --   byte_at s k          the byte that they spell
 --   bytes_to s n         the first n bytes
@@ -10,16 +10,19 @@
 --   pair_of b            the two digits of a byte
 --   encoded_to s n       the hex of the first n bytes of s
 --   encoded s           s as hex
-use Rattle.std.specs.Prelude.{ℕ, zero, suc, ◌+◌, ◌-◌, ◌*◌, ◌/◌, ◌%◌, ◌≤◌, ◌≡◌, Bool, cond, ◌&&◌, List, [], ◌∷◌, ◌++◌, get_or, length, take, eqb, leb, ltb}
+use Rattle.std.specs.Prelude.{ℕ, zero, suc, ◌+◌, ◌-◌, ◌*◌, ◌/◌, ◌%◌, ◌≤◌, ◌≡◌, Bool, cond, ◌&&◌, List, [], ◌∷◌, ◌++◌, get_or, length, take, eqb, leb, ltb, Option, Some, None, Result, Ok, Err}
 use Rattle.io.specs.Digits.{hex_digit_ascii}
 use Rattle.base_lists.specs.Loops.{build, all_below}
-use Rattle.log_text.specs.declared.hex.Decoded.{Decoded}
-use Rattle.log_text.specs.declared.hex.Decoded.TheVariants.{Bytes, Empty, Odd, BadDigit, NoRoom}
+use Rattle.log_text.specs.declared.hexadecimal.HexError.{HexError}
+use Rattle.log_text.specs.declared.hexadecimal.HexError.TheVariants.{Empty, Odd, BadDigit, NoRoom}
 
 unfoldable pub digit_value : ℕ → ℕ
 digit_value b =
     cond (ltb b 48) 16
     (cond (leb b 57) (b - 48) (cond (ltb b 97) 16 (cond (leb b 102) (b - 87) 16)))
+
+abbrev pub digit_of : ℕ → Option ℕ
+digit_of b = cond (leb (digit_value b) 15) (Some (digit_value b)) None
 
 -- the values of the two digits of byte k
 abbrev pub high_at : List ℕ → ℕ → ℕ
@@ -40,22 +43,19 @@ bytes_to s n = build (byte_at s) n
 unfoldable pub is_dash : List ℕ → Bool
 is_dash s = eqb (length s) 1 && eqb (get_or s 0 0) 45
 
-unfoldable pub pairs_decoded : List ℕ → ℕ → Decoded
-pairs_decoded s n = cond (all_below (pair_at s) n) (Bytes n) BadDigit
+unfoldable pub pairs_decoded : List ℕ → ℕ → Result ℕ HexError
+pairs_decoded s n = cond (all_below (pair_at s) n) (Ok n) (Err BadDigit)
 
-unfoldable pub hex_decoded : List ℕ → ℕ → Decoded
+unfoldable pub hex_decoded : List ℕ → ℕ → Result ℕ HexError
 hex_decoded s room =
-    cond (is_dash s) (Bytes 0)
-    (cond (eqb (length s) 0) Empty
-    (cond (eqb (length s % 2) 1) Odd
-    (cond (ltb room (length s / 2)) NoRoom (pairs_decoded s (length s / 2)))))
+    cond (is_dash s) (Ok 0)
+    (cond (eqb (length s) 0) (Err Empty)
+    (cond (eqb (length s % 2) 1) (Err Odd)
+    (cond (ltb room (length s / 2)) (Err NoRoom) (pairs_decoded s (length s / 2)))))
 
-abbrev pub HoldsBytes : List ℕ → List ℕ → Decoded → Type 0
-HoldsBytes s out (Bytes n) = (n ≤ length out) × (take n out ≡ bytes_to s n)
-HoldsBytes s out Empty = Unit {0}
-HoldsBytes s out Odd = Unit {0}
-HoldsBytes s out BadDigit = Unit {0}
-HoldsBytes s out NoRoom = Unit {0}
+abbrev pub HoldsBytes : List ℕ → List ℕ → Result ℕ HexError → Type 0
+HoldsBytes s out (Ok n) = (n ≤ length out) × (take n out ≡ bytes_to s n)
+HoldsBytes s out (Err e) = Unit {0}
 
 abbrev pub pair_of : ℕ → List ℕ
 pair_of b = hex_digit_ascii (b / 16 % 16) ∷ hex_digit_ascii (b % 16) ∷ []

@@ -1,16 +1,15 @@
-// Text in byte slices: decimal numbers, hex, and answers written into a buffer that the caller lends.
+// Text in fixed memory: what is written, bytes as hex, decimal numbers, and places in a slice.
 //
-// It may use base_lists and, of the kit's `io`, the spelling of numbers: nothing here reads or writes a file. No public
-// function has a `requires`: a place past the end of a buffer counts as its end, and bytes for which there is no room
-// are left out.
+// It may use base_lists and, of the kit's `io`, the spelling of digits: nothing here reads or writes a file. No public
+// function has a `requires`: bytes for which there is no room are left out.
 #![tactic(auto)]
 
-mod hex;
+mod hexadecimal;
 mod number;
 mod output;
 mod search;
 
-pub use hex::{Decoded, decode_hex, put_hex};
-pub use number::{Number, read_number};
-pub use output::{put, put_number};
-pub use search::{count, find, least};
+pub use hexadecimal::{Hex, HexError, decode_hex};
+pub use number::read_number;
+pub use output::Text;
+pub use search::{count, find};

@@ -1,24 +1,89 @@
-// Writing into a lent buffer. Each function takes the place to write at and answers the place after what it
-// wrote, so that the next call goes on from there.
-ghost use Rattle.log_text.specs.Written.{Written, WrittenNumber};
+// Text in fixed memory, to which `write!` writes too.
+ghost use Rattle.std.specs.Prelude.{◌≡◌, ◌≤◌, take, IfOk, IfErr};
+ghost use Rattle.log_text.specs.Hex.{hex_decoded, bytes_to, encoded};
+ghost use Rattle.log_text.specs.Written.{Written};
 
-use crate::search::least;
+use crate::hexadecimal::{HexError, decode_hex, digit_char};
+use std::fmt;
 
-// Puts the bytes of s at `at`, as many as there is room for.
-pub fn put(out: &mut [u8], at: usize, s: &[u8]) -> usize
-    ensures { Written out.old at s.now out.new result }
-{
-    let start = least(at, out.len());
-    let n = least(s.len(), out.len() - start);
-    out[start..start + n].copy_from_slice(&s[0..n]);
-    start + n
+// The first `len` of N bytes. A text is bytes, of any values: those that hex spells too. What has no room is left out.
+#[derive(Drop)]
+pub struct Text<const N: usize> {
+    bytes: [u8; N],
+    len: usize,
+    ghost within: { len ≤ N },
 }
 
-// Puts n in decimal.
-pub fn put_number(out: &mut [u8], at: usize, n: u64) -> usize
-    ensures { WrittenNumber out.old at n out.new result }
-{
-    let mut digits = [0u8; 20];
-    let k = io::decimal(n, &mut digits);
-    put(out, at, &digits[0..k])
+impl<const N: usize> Text<N> {
+    pub fn new() -> Self
+        ensures { result.len ≡ 0 }
+    {
+        Text {
+            bytes: [0; N],
+            len: 0,
+        }
+    }
+
+    // The bytes that the hex spells, all of them.
+    pub fn from_hex(hex: &[u8]) -> Result<Text<N>, HexError>
+        ensures spelled { IfOk result (λ b. (hex_decoded hex.now N ≡ Ok b.len) × (take b.len b.bytes ≡ bytes_to hex.now b.len)) }
+        ensures refused { IfErr result (λ e. hex_decoded hex.now N ≡ Err e) }
+    {
+        let mut bytes = [0; N];
+        let len = decode_hex(hex, &mut bytes)?;
+        Ok(Text { bytes, len })
+    }
+
+    // Puts the bytes of s behind the text, as many as there is room for.
+    pub fn put(&mut self, s: &[u8])
+        ensures { Written self.old.bytes self.old.len s.now self.new.bytes self.new.len }
+    {
+        let n = s.len().min(N - self.len);
+        let all = &mut self.bytes[..];
+        all[self.len..self.len + n].copy_from_slice(&s[..n]);
+        self.len += n;
+    }
+
+    // Puts the bytes of s as hex, as `Hex` prints them.
+    pub fn put_hex(&mut self, s: &[u8])
+        ensures { Written self.old.bytes self.old.len (encoded s.now) self.new.bytes self.new.len }
+    {
+        if s.is_empty() {
+            self.put(b"-");
+            return;
+        }
+        for b in s {
+            self.put(&[digit_char(*b / 16), digit_char(*b % 16)]);
+        }
+    }
+
+    pub fn as_bytes(&self) -> &[u8]
+        ensures { result.now ≡ take self.now.len self.now.bytes }
+    {
+        &self.bytes[..self.len]
+    }
+
+    pub fn len(&self) -> usize
+        ensures { (result ≡ self.now.len) × (result ≤ N) }
+    {
+        self.as_bytes().len()
+    }
+
+    pub fn clear(&mut self)
+        ensures { self.new.len ≡ 0 }
+    {
+        self.len = 0;
+    }
+}
+
+impl<const N: usize> fmt::Write for Text<N> {
+    ghost write_str_gives = { λ s bytes t. Written s.bytes s.len bytes t.bytes t.len };
+
+    // What has no room is left out, and that is no error.
+    fn write_str(&mut self, s: &str) -> fmt::Result
+        ensures { (result ≡ Ok tt) × Written self.old.bytes self.old.len s.now self.new.bytes self.new.len }
+    {
+        self.put(s.as_bytes());
+        Ok(())
+    }
 }

@@ -5,11 +5,12 @@
 
 mod reading; // the numbers of a line
 
-ghost use Rattle.std.specs.Prelude.{◌≡◌, ◌≤◌, ◌*◌, length};
+ghost use Rattle.std.specs.Prelude.{◌≤◌, length};
 
-use base_rulings::Ruling;
-use log_text::{Number, least, put, put_hex, put_number};
-use reading::{Read, after, number_at, read_list};
+use base_rulings::Cause;
+use log_text::Hex;
+use reading::{next_number, read_action};
+use std::fmt;
 use write_plant::{ACTION_WORDS, write_plant};
 
 // The longest buffer that a log can write into.
@@ -25,11 +26,10 @@ const PATTERN: u8 = 0xA5;
 // What stands in the words of allocations that an action does not have: no field of one may be so large.
 const PAST: u32 = 0xFFFFFFFF;
 
-// What a line comes to: the length of the file, a refusal, or what is wrong with the line or with the call.
-#[derive(Clone, Copy)]
-pub enum Made {
-    File(usize),
-    Refused(Ruling),
+// Why a line writes no file: the cause of the refusal, or what is wrong with the line or with the call.
+#[derive(Clone, Copy, Debug, PartialEq, Eq)]
+pub enum WriteError {
+    Refused(Cause),
     Missing,
     Extra,
     BadNumber,
@@ -38,94 +38,56 @@ pub enum Made {
     Spilt,
 }
 
-// Makes the file that the words of a line ask for: `ROOM COUNT ACTION..`.
-pub fn rule_write(words: &[u8]) -> Made {
+// Makes the file that the words of a line ask for, `ROOM COUNT ACTION..`, and answers its length.
+pub fn rule_write(words: &[u8]) -> Result<usize, WriteError> {
     let mut buffer = [PATTERN; MOST_BYTES];
     make(words, &mut buffer)
 }
 
-// Puts `= 0 LENGTH HEX`, of a file that is made again for its text: no answer holds one.
-pub fn put_file(out: &mut [u8], at: usize, words: &[u8]) -> usize {
-    let mut buffer = [PATTERN; MOST_BYTES];
-    let Made::File(n) = make(words, &mut buffer) else {
-        return at;
-    };
-    let length = least(n, MOST_BYTES);
-    let mark = put(out, at, b"= 0 ");
-    let number = put_number(out, mark, length as u64);
-    let blank = put(out, number, b" ");
-    let end = put_hex(out, blank, &buffer[0..length]);
-    put(out, end, b"\n")
-}
+// The answer to these words where they make a file, `= 0 LENGTH HEX`. The file is made again for its text: no answer holds one.
+#[derive(Clone, Copy)]
+pub struct Filed<'a>(pub &'a [u8]);
 
-fn make(words: &[u8], buffer: &mut [u8]) -> Made
-    requires { length buffer.old ≡ 16384 }
-{
-    let Number::Value(room) = number_at(words, 0) else {
-        return Made::BadNumber;
-    };
-    if MOST_BYTES < room as usize {
-        return Made::ManyBytes;
-    }
-    let second = after(words, 0);
-    if words.len() < second {
-        return Made::Missing;
-    }
-    let Number::Value(count) = number_at(words, second) else {
-        return Made::BadNumber;
-    };
-    if MOST_ACTIONS < count as usize {
-        return Made::ManyActions;
-    }
-    make_list(
-        words,
-        after(words, second),
-        count as usize,
-        room as usize,
-        buffer,
-    )
-}
-
-// The actions from `at` on, written into the first `room` bytes.
-fn make_list(words: &[u8], at: usize, count: usize, room: usize, buffer: &mut [u8]) -> Made
-    requires { (count ≤ 200) × (room ≤ length buffer.old) }
-{
-    let mut w = [PAST; MOST_WORDS];
-    match read_list(words, at, &mut w, count) {
-        Read::Missing => Made::Missing,
-        Read::BadNumber => Made::BadNumber,
-        Read::At(end) => {
-            if end <= words.len() {
-                return Made::Extra;
-            }
-            let n = ACTION_WORDS * count;
-            write_into(&w[0..n], room, buffer)
+impl<'a> fmt::Display for Filed<'a> {
+    fn fmt<W: fmt::Write>(&self, f: &mut fmt::Formatter<W>) -> fmt::Result {
+        let mut buffer = [PATTERN; MOST_BYTES];
+        if let Ok(length) = make(self.0, &mut buffer) {
+            let file = &buffer[..length.min(MOST_BYTES)];
+            writeln!(f, "= 0 {} {}", file.len(), Hex(file))?;
         }
+        Ok(())
     }
 }
 
-fn write_into(w: &[u32], room: usize, buffer: &mut [u8]) -> Made
+fn make(words: &[u8], buffer: &mut [u8; MOST_BYTES]) -> Result<usize, WriteError> {
+    let mut words = words.split(|b| *b == b' ');
+    let room = next_number(&mut words)? as usize;
+    if MOST_BYTES < room {
+        return Err(WriteError::ManyBytes);
+    }
+    let count = next_number(&mut words)? as usize;
+    if MOST_ACTIONS < count {
+        return Err(WriteError::ManyActions);
+    }
+    let mut fields = [PAST; MOST_WORDS];
+    let actions = &mut fields[..ACTION_WORDS * count];
+    for action in actions.chunks_exact_mut(ACTION_WORDS) {
+        read_action(&mut words, action)?;
+    }
+    if words.next().is_some() {
+        return Err(WriteError::Extra);
+    }
+    write_into(actions, buffer, room)
+}
+
+// Writes the actions' file into the first `room` bytes.
+fn write_into(actions: &[u32], buffer: &mut [u8], room: usize) -> Result<usize, WriteError>
     requires { room ≤ length buffer.old }
 {
-    let filed = write_plant(w, &mut buffer[0..room]);
-    if !is_pattern(buffer, filed.length) {
-        return Made::Spilt;
+    let written = write_plant(actions, &mut buffer[..room]);
+    let mut rest = buffer.iter().skip(written.unwrap_or(0));
+    if !rest.all(|b| *b == PATTERN) {
+        return Err(WriteError::Spilt);
     }
-    let ruling = filed.ruling;
-    match ruling {
-        Ruling::Accepted => Made::File(filed.length),
-        Ruling::Refused(_) => Made::Refused(ruling),
-    }
-}
-
-// Whether all bytes from `from` on hold the pattern.
-fn is_pattern(buffer: &[u8], from: usize) -> bool {
-    let mut k = from;
-    while k < buffer.len() {
-        if buffer[k] != PATTERN {
-            return false;
-        }
-        k += 1;
-    }
-    true
+    written.map_err(WriteError::Refused)
 }

@@ -1,2 +1,2 @@
-pub mod Allocations
 pub mod ReadAllocations
+pub mod Offers

@@ -10,7 +10,6 @@ use mathlib.Core.Bool.{Bool, true, false, ◌||◌}
 use mathlib.Core.List.{List, [], ◌∷◌, ◌++◌}
 use lib.ListN.{length, get_or}
 use lib.Dec.{leb}
-use lib.Seq.{ext_get_or}
 use borrow.Author.Tests.{le-leb}
 use native.Mathlib.Omega.{arith}
 use Rattle.spec_plain.specs.Limits.{most_jobs, resources, most_uses, cell_count}
@@ -23,7 +22,8 @@ use Rattle.part_boardwords.specs.Layout.{jobs_at, lines_at, cells_at, board_size
 use Rattle.part_boardwords.specs.Words.{Words, word_in, board_in, job_at, jobs_read, use_at, uses_read, line_at, lines_read}
 use Rattle.part_boardwords.specs.Words.{cell_at, cells_read, is_marked, all_marked, board_read}
 use Rattle.part_boardwords.specs.Codec.{job_words, use_words, uses_words, line_words, jobs_words, lines_words, cells_words, head_words, frame_words, words_of}
-use Rattle.base_lists.proofs.Build.{build_same, build_at, build_length, build_back, build_add}
+use Rattle.base_lists.proofs.Build.{build_same, build_at, build_back, build_add}
+use Rattle.part_boardwords.proofs.Filled.{filled}
 use Rattle.part_boardwords.proofs.Blocks.{joined_same, joined_blocks}
 use Rattle.part_boardwords.proofs.Parts.{job_word, use_word, head_word}
 
@@ -36,16 +36,12 @@ unfolding all_marked is_marked
 marks_hold w h =
     all_below_of (λ k. leb (w count_at) k || leb (w (mark_at k)) 1) most_jobs (λ k l. or_true (leb (w count_at) k) (le-leb (w (mark_at k)) 1 (h k l)))
 
--- a list by its elements
-by_words : (l : List ℕ) (f : ℕ → ℕ) (n : ℕ) → length l ≡ n → ((i : ℕ) → i < n → get_or l i 0 ≡ f i) → l ≡ build f n
-by_words l f n long same = ext_get_or 0 l (build f n) (long ∙ sym (build_length f n)) (λ i h. same i (omega arith) ∙ sym (build_at f n i 0 (omega arith)))
-
 module _ (w : Words) where
   pub uses_read_lem : (at : ℕ) → uses_words (uses_read w at) ≡ build (λ j. w (at + uses_in + j)) uses_size
   uses_read_lem at =
       joined_same (λ k. use_words (get_or (uses_read w at) k no_use)) (λ k. build (λ i. w (at + uses_in + (use_size * k + i))) use_size) most_uses
       (λ k h. ap use_words (build_at (use_at w at) most_uses k no_use h)
-      ∙ by_words (use_words (use_at w at k)) (λ i. w (at + uses_in + (use_size * k + i))) use_size refl
+      ∙ filled 0 (λ i. w (at + uses_in + (use_size * k + i))) use_size (use_words (use_at w at k)) refl
       (λ i l. use_word w (use_start at k) i l ∙ ap w {x = use_start at k + i} {y = at + uses_in + (use_size * k + i)} (omega arith)))
       ∙ joined_blocks (λ j. w (at + uses_in + j)) use_size most_uses
 
@@ -53,7 +49,7 @@ module _ (w : Words) where
   jobs_read_lem marks =
       joined_same (λ k. job_words (get_or (jobs_read w) k no_job)) (λ k. build (λ i. w (jobs_at + (job_size * k + i))) job_size) most_jobs
       (λ k h. ap job_words (build_at (job_at w) most_jobs k no_job h)
-      ∙ by_words (job_words (job_at w k)) (λ i. w (jobs_at + (job_size * k + i))) job_size refl
+      ∙ filled 0 (λ i. w (jobs_at + (job_size * k + i))) job_size (job_words (job_at w k)) refl
       (λ i l. job_word w (job_start k) i (marks k h) l ∙ ap w {x = job_start k + i} {y = jobs_at + (job_size * k + i)} (omega arith)))
       ∙ joined_blocks (λ j. w (jobs_at + j)) job_size most_jobs
 
@@ -80,7 +76,7 @@ module _ (w : Words) where
   cells_read_lem = build_same (λ k. get_or (cells_read w) k 0) (λ j. w (cells_at + j)) cell_count (λ k h. build_at (cell_at w) cell_count k 0 h)
 
   head_read : head_words (board_read w) ≡ build w head_size
-  head_read = by_words (head_words (board_read w)) w head_size refl (head_word w)
+  head_read = filled 0 w head_size (head_words (board_read w)) refl (head_word w)
 
   -- the words of the frame, in three parts
   parts : build w cells_at ≡ build w head_size ++ (build (λ j. w (jobs_at + j)) jobs_size ++ build (λ j. w (lines_at + j)) lines_size)

@@ -1,4 +1,5 @@
 pub mod Filled
+pub mod Tests
 pub mod Blocks
 pub mod Overwritten
 pub mod Parts

@@ -1,7 +1,7 @@
 -- Laws of writing over a list.
 --   overwritten_length     the length stays
 --   overwritten_append     two lists written one behind the other
---   overwritten_three      three words stored one by one;  overwritten_fourth: a fourth behind them, the third known by an equation
+--   overwritten_put        a part of a list that was copied from another list
 --   overwritten_none, overwritten_turn   a loop's start, and its turn: the words of element k behind those before it;  overwritten_line_turn: of lines
 --   overwritten_below, overwritten_from   a word outside of what is written stays
 --   overwritten_front      the front part of a list written over
@@ -10,10 +10,13 @@
 use Prim.Native.Nat.{ℕ, zero, suc, ◌+◌, ◌*◌, ◌<◌, ◌≤◌}
 use mathlib.Core.Path.{◌≡◌, refl, sym, ◌∙◌, ap}
 use mathlib.Core.List.{List, [], ◌∷◌, ◌++◌, append-nil, append_assoc}
-use lib.ListN.{length, get_or, set, take, length-set, length-append}
+use lib.ListN.{length, get_or, set, take, drop, length-set, length-append}
 use lib.Seq.{take_all, set-append_left, get_or-set_other}
 use native.Mathlib.Numerals.{add-one}
 use native.Mathlib.Omega.{arith}
+use borrow.Rule.Slice.PartMut.{put_mid}
+use Rattle.std.proofs.lemmas.List.Edits.{sets, sets-eq, paste_all}
+use Rattle.std.proofs.lemmas.Slice.{put_mid-paste}
 use Rattle.base_lists.proofs.Build.{build_length}
 use Rattle.spec_plain.specs.declared.Job.{Job}
 use Rattle.part_lines.specs.declared.Line.{Line}
@@ -35,22 +38,19 @@ unfolding overwritten
 overwritten_append w at [] m to e = ap (λ (i : ℕ). overwritten w i m) (omega arith)
 overwritten_append w at (x ∷ l) m to e = overwritten_append (set w at x) (suc at) l m to (omega arith)
 
-pub overwritten_three :
-    (w : List ℕ) (at a b c : ℕ) → set (set (set w at a) (at + 1) b) (at + 2) c ≡ overwritten w at (a ∷ b ∷ c ∷ [])
+overwritten_sets : (w : List ℕ) (at : ℕ) (l : List ℕ) → overwritten w at l ≡ sets w at l
 unfolding overwritten
-overwritten_three w at a b c =
-    let one : at + 1 ≡ suc at = omega arith in
-    let two : at + 2 ≡ suc (suc at) = omega arith in
-    rw (one, two)
+overwritten_sets w at [] = refl
+overwritten_sets w at (x ∷ l) = overwritten_sets (set w at x) (suc at) l
 
--- a word behind three others, of which the last is known by an equation
-pub overwritten_fourth :
-    (w : List ℕ) (at a b m n d : ℕ) (x : List ℕ) → x ≡ overwritten w at (a ∷ b ∷ m ∷ []) → m ≡ n → set x (at + 3) d ≡ overwritten w at (a ∷ b ∷ n ∷ d ∷ [])
-unfolding overwritten
-overwritten_fourth w at a b m n d x e s =
-    ap (λ (l : List ℕ). set l (at + 3) d) e
-    ∙ ap (λ (z : ℕ). set (overwritten w at (a ∷ b ∷ z ∷ [])) (at + 3) d) s
-    ∙ ap (λ (k : ℕ). set (overwritten w at (a ∷ b ∷ n ∷ [])) k d) {x = at + 3} {y = suc (suc (suc at))} (omega arith)
+pub overwritten_put :
+    (w : List ℕ) (at n : ℕ) (l m : List ℕ) → m ≡ l → n ≡ length l → at + length l ≤ length w → put_mid at n w m ≡ overwritten w at l
+overwritten_put w at n l m is long room =
+    put_mid-paste at n w m l (length l) is (sym long) refl
+    ∙ paste_all w at l (length l) refl
+    ∙ sym (append_assoc (take at w) l (drop (at + length l) w))
+    ∙ sym (sets-eq l w at room)
+    ∙ sym (overwritten_sets w at l)
 
 pub length_line : (l : Line) → length (line_words l) ≡ line_size
 length_line l = ap suc (length_joined (λ k. use_words (get_or l.uses k no_use)) use_size 32 (λ k. refl))

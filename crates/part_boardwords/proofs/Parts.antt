@@ -1,6 +1,6 @@
 -- Settings, jobs, uses and heads by their words, whichever these are: what all other proofs know of them, so that a word more changes none of them.
 -- Assumes nothing.
---   mark_is, mark_small, mark_back   marks written and read again
+--   mark_made, mark_is, mark_small, mark_back   marks written, and read again
 --   settings_by, job_by, use_by      the same words, at another place or in other words, give the same settings, job, use;  job_same: at the same place
 --   job_zero, use_zero               words of 0 give what stands in a place not in use
 --   job_written, use_written         the words of a job, of a use, read again
@@ -11,6 +11,7 @@ use Prim.Native.Nat.{ℕ, zero, suc, ◌+◌, ◌<◌, ◌≤◌}
 use mathlib.Core.Path.{◌≡◌, refl, ◌∙◌, ap}
 use mathlib.Core.Bool.{Bool, true, false}
 use lib.ListN.{get_or}
+use mir.Val.{bool_byte}
 use lib.Dec.{eqb}
 use native.Mathlib.Omega.{arith}
 use Rattle.spec_plain.specs.declared.Settings.{Settings}
@@ -29,6 +30,10 @@ pub mark_back : (m : ℕ) → m ≤ 1 → mark_of (eqb m 1) ≡ m
 mark_back zero h = refl
 mark_back (suc zero) h = refl
 mark_back (suc (suc m)) h = absurd (omega arith)
+
+pub mark_made : (s : Bool) → bool_byte s ≡ mark_of s
+mark_made true = refl
+mark_made false = refl
 
 pub mark_small : (s : Bool) → mark_of s ≤ 1
 mark_small true = omega arith

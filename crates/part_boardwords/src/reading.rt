@@ -5,18 +5,11 @@ ghost use Rattle.part_boardwords.specs.Layout.{job_size, use_size, cells_at, boa
 ghost use Rattle.part_boardwords.specs.Words.{word_in, settings_read, job_read, job_at, jobs_read, use_read, use_at, cell_at, is_marked, all_marked, held_jobs};
 
 use crate::layout;
-use crate::making::new_job;
 use part_lines::Jobs;
 use spec_plain::{Job, Settings, Use, limits};
+use std::array;
 
 // ---- settings, jobs, uses and cells
-
-fn word(s: &[u32], k: usize) -> u32
-    requires { k < length s.now }
-    ensures { result ≡ word_in s.now k }
-{
-    s[k]
-}
 
 // What the board was made with.
 pub fn settings_in(s: &[u32]) -> Settings
@@ -24,8 +17,8 @@ pub fn settings_in(s: &[u32]) -> Settings
     ensures { result ≡ settings_read (word_in s.now) }
 {
     Settings {
-        horizon: word(s, layout::HORIZON_AT),
-        lead: word(s, layout::LEAD_AT),
+        horizon: s[layout::HORIZON_AT],
+        lead: s[layout::LEAD_AT],
     }
 }
 
@@ -34,10 +27,10 @@ fn read_job(s: &[u32], at: usize) -> Job
     ensures { result ≡ job_read (word_in s.now) at }
 {
     Job {
-        points: word(s, at),
-        batch: word(s, at + layout::BATCH_IN),
-        sent: word(s, at + layout::SENT_IN) == 1,
-        due: word(s, at + layout::DUE_IN),
+        points: s[at],
+        batch: s[at + layout::BATCH_IN],
+        sent: s[at + layout::SENT_IN] == 1,
+        due: s[at + layout::DUE_IN],
     }
 }
 
@@ -49,25 +42,14 @@ pub fn job_at(s: &[u32], k: usize) -> Job
     read_job(s, layout::JOBS_AT + layout::JOB_SIZE * k)
 }
 
-fn jobs(s: &[u32]) -> [Job; limits::MOST_JOBS]
-    requires { cells_at ≤ length s.now }
-    ensures { result ≡ jobs_read (word_in s.now) }
-{
-    let mut next = [new_job(0, 0, 0); limits::MOST_JOBS];
-    for k in 0..limits::MOST_JOBS {
-        next[k] = job_at(s, k);
-    }
-    next
-}
-
 // The jobs with their count, which may be any number.
 pub fn read_jobs(s: &[u32]) -> Jobs
     requires { cells_at ≤ length s.now }
     ensures { result ≡ held_jobs (word_in s.now) }
 {
     Jobs {
-        count: word(s, layout::COUNT_AT) as usize,
-        jobs: jobs(s),
+        count: s[layout::COUNT_AT] as usize,
+        jobs: array::from_fn(|k| job_at(s, k)),
     }
 }
 
@@ -76,9 +58,9 @@ fn read_use(s: &[u32], at: usize) -> Use
     ensures { result ≡ use_read (word_in s.now) at }
 {
     Use {
-        point: word(s, at),
-        offset: word(s, at + layout::OFFSET_IN),
-        length: word(s, at + layout::LENGTH_IN),
+        point: s[at],
+        offset: s[at + layout::OFFSET_IN],
+        length: s[at + layout::LENGTH_IN],
     }
 }
 
@@ -95,12 +77,12 @@ pub fn cell_at(s: &[u32], i: usize, j: usize) -> u32
     requires { (board_size ≤ length s.now) × (i < side) × (j < side) }
     ensures { result ≡ cell_at (word_in s.now) (i * side + j) }
 {
-    word(s, layout::CELLS_AT + (i * limits::SIDE + j))
+    s[layout::CELLS_AT + (i * limits::SIDE + j)]
 }
 
 // ---- marks
 
-// A job in use is marked sent or unsent, by 1 or 0. No one looks at the others.
+// A job in use is marked sent or unsent, by 1 or 0. No one looks at the others. Joined by `|`, with no branch (`are_marked`).
 fn is_marked(count: usize, k: usize, mark: u32) -> bool
     ensures { result ≡ is_marked count k mark }
 {
@@ -111,15 +93,16 @@ pub fn are_marked(s: &[u32]) -> bool
     requires { cells_at ≤ length s.now }
     ensures { result ≡ all_marked (word_in s.now) }
 {
-    let count = word(s, layout::COUNT_AT) as usize;
+    let count = s[layout::COUNT_AT] as usize;
     let mut ok = true;
+    // Stays: every call begins with this test, and the new form is no plainer for it: `all` would leave at the first job that is not marked, by a
+    // branch for each of 16 jobs, where this form reads all 16 marks and takes none.
     for k in 0..limits::MOST_JOBS {
-        ok = ok
-            & is_marked(
-                count,
-                k,
-                word(s, layout::JOBS_AT + layout::JOB_SIZE * k + layout::SENT_IN),
-            );
+        ok &= is_marked(
+            count,
+            k,
+            s[layout::JOBS_AT + layout::JOB_SIZE * k + layout::SENT_IN],
+        );
     }
     ok
 }

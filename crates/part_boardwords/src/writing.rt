@@ -8,36 +8,15 @@ ghost use Rattle.part_boardwords.specs.Codec.{mark_of, job_words, use_words, ove
 use crate::layout;
 use spec_plain::{Job, Use};
 
-// Three words, from `at` on.
-fn write_three(w: &mut [u32], at: usize, a: u32, b: u32, c: u32)
-    requires { at + 3 ≤ length w.old }
-    ensures { w.new ≡ overwritten w.old at (a ∷ b ∷ c ∷ []) }
-{
-    w[at] = a;
-    w[at + 1] = b;
-    w[at + 2] = c;
-}
-
 // 0 in the words from `from` on and before `to`.
 pub fn clear(w: &mut [u32], from: usize, to: usize)
     requires { (from ≤ to) × (to ≤ length w.old) }
     ensures { w.new ≡ rewritten (λ k. 0) w.old from to }
 {
-    for k in from..to {
-        w[k] = 0;
-    }
+    w[from..to].fill(0);
 }
 
 // ---- jobs
-
-fn mark(sent: bool) -> u32
-    ensures { result ≡ mark_of sent }
-{
-    if sent {
-        return 1;
-    }
-    0
-}
 
 // Job k.
 pub fn write_job(w: &mut [u32], k: usize, job: Job)
@@ -45,8 +24,12 @@ pub fn write_job(w: &mut [u32], k: usize, job: Job)
     ensures { w.new ≡ overwritten w.old (job_start k) (job_words job) }
 {
     let at = layout::JOBS_AT + layout::JOB_SIZE * k;
-    write_three(w, at, job.points, job.batch, mark(job.sent));
-    w[at + layout::DUE_IN] = job.due;
+    w[at..at + layout::JOB_SIZE].copy_from_slice(&[
+        job.points,
+        job.batch,
+        u32::from(job.sent),
+        job.due,
+    ]);
 }
 
 // Job k marked as sent.
@@ -74,7 +57,7 @@ pub fn write_use(w: &mut [u32], at: usize, k: usize, u: Use)
     ensures { w.new ≡ overwritten w.old (use_start at k) (use_words u) }
 {
     let from = at + layout::USES_IN + layout::USE_SIZE * k;
-    write_three(w, from, u.point, u.offset, u.length);
+    w[from..from + layout::USE_SIZE].copy_from_slice(&[u.point, u.offset, u.length]);
 }
 
 // 0 in the places of the uses from number n on of the line that begins at word `at`.

@@ -3,7 +3,7 @@
 --   from_start          placing that starts with rules makes the same rules behind them
 --   drafted_full        14
 --   start_room          the rules (b) and (c) leave room for the others
---   drafted_stop, drafted_made   past 14: what placing came to decides;  stops_as: a refusal says no more than its cause
+--   drafted_stop, drafted_made   past 14: what placing came to decides;  stops_as: a refusal says its cause
 use Prim.Native.Nat.{ℕ, suc, ◌+◌, ◌≤◌, ◌*◌}
 use mathlib.Core.Path.{◌≡◌, refl, sym, ◌∙◌, ap, subst}
 use mathlib.Core.Bool.{Bool, true, false, cond}
@@ -13,8 +13,7 @@ use lib.ListN.{length, get_or, set}
 use native.Mathlib.Omega.{arith}
 use Rattle.base_rulings.specs.Answer.{cause, plain}
 use Rattle.base_rulings.specs.declared.Cause.{Cause}
-use Rattle.base_rulings.specs.declared.Ruling.{Ruling}
-use Rattle.base_rulings.specs.declared.Ruling.TheVariants.{Accepted, Refused}
+use Rattle.std.specs.Prelude.{⊤, Result, Ok, Err}
 use Rattle.spec_plain.specs.Limits.{most_uses, most_steps, most_allocations}
 use Rattle.spec_plain.specs.Plain.{State, Offer, Placed, Draft, live_count, not_before, durations, inserted, rule_before, rule_after, used_from, placed, with_jobs}
 use Rattle.spec_plain.specs.Plain.{with_lines, tray_gap, batch_rules, due_rules, last_point, full, new_points, job_from, joining, drafted}
@@ -26,7 +25,6 @@ use Rattle.spec_plain.specs.declared.Allocation.{Allocation}
 use Rattle.spec_plain.specs.declared.Step.{Step}
 use Rattle.spec_plain.specs.declared.Rule.{Rule}
 use Rattle.part_lines.specs.declared.rulelist.Rules.{Rules}
-use Rattle.part_drafts.specs.declared.drafting.Drafted.{Drafted}
 use Rattle.part_drafts.specs.DraftedAs.{DraftedAs}
 use Rattle.part_lines.proofs.RuleLaws.{Room_of, rules_back}
 
@@ -116,46 +114,43 @@ module _ (x p : ℕ) (ss : List Step) (b : Rules) (few : length ss ≤ 8) (is : 
 
 module _
     (s : State) (o : Offer) (x n : ℕ) (first : x ≡ live_count s) (size : n ≡ length o.steps) (not_full : full s (n + 1) ≡ false)
-    (few : length o.steps ≤ most_steps) (b : Rules) (is : b ≡ rules_from (begun s o x)) (ruling : Ruling) (ls : List (List Use)) (made : Rules)
-    (answer : answered ruling ls (rules_of made) ≡ placed s.settings x 0 o.allocations s.lines (rules_of b)) where
+    (few : length o.steps ≤ most_steps) (b : Rules) (is : b ≡ rules_from (begun s o x)) (came : Result ⊤ Cause) (ls : List (List Use)) (made : Rules)
+    (answer : answered came ls (rules_of made) ≡ placed s.settings x 0 o.allocations s.lines (rules_of b)) where
   past_full : drafted s o ≡ joining s o (placed s.settings (live_count s) 0 o.allocations s.lines [])
   unfolding drafted
   past_full = let points : new_points o ≡ n + 1 = omega arith in rw (points, not_full)
 
   came_to :
-      (y : Ruling) → ruling ≡ y
+      (y : Result ⊤ Cause) → came ≡ y
       → answered y ls (rules_of made) ≡ prefixed (begun s o (live_count s)) (placed s.settings (live_count s) 0 o.allocations s.lines [])
   came_to y e =
-      sym (ap (λ (z : Ruling). answered z ls (rules_of made)) e)
+      sym (ap (λ (z : Result ⊤ Cause). answered z ls (rules_of made)) e)
       ∙ answer
       ∙ ap (placed s.settings x 0 o.allocations s.lines) (start_list x (s.clock + s.settings.lead) o.steps b few is)
       ∙ ap (λ (i : ℕ). placed s.settings i 0 o.allocations s.lines (begun s o i)) first
       ∙ from_start s.settings (live_count s) o.allocations s.lines (begun s o (live_count s))
 
-  pub drafted_stop : (c : Cause) → ruling ≡ Refused c → drafted s o ≡ Draft.stop c
+  pub drafted_stop : (c : Cause) → came ≡ Err c → drafted s o ≡ Draft.stop c
   unfolding answered
   drafted_stop c e =
-      past_full ∙ joining_stop s o (begun s o (live_count s)) (placed s.settings (live_count s) 0 o.allocations s.lines []) c (came_to (Refused c) e)
+      past_full ∙ joining_stop s o (begun s o (live_count s)) (placed s.settings (live_count s) 0 o.allocations s.lines []) c (came_to (Err c) e)
 
-  drafted_go : ruling ≡ Accepted → drafted s o ≡ joined s o ls (rules_of made)
+  drafted_go : came ≡ Ok tt → drafted s o ≡ joined s o ls (rules_of made)
   unfolding answered
   drafted_go e =
       past_full
-      ∙ joining_go s o (placed s.settings (live_count s) 0 o.allocations s.lines []) ls (rules_of made) (came_to Accepted e)
+      ∙ joining_go s o (placed s.settings (live_count s) 0 o.allocations s.lines []) ls (rules_of made) (came_to (Ok tt) e)
 
-  -- the parts of the answer are those of the plain machine
+  -- the rules are those of the plain machine
   pub drafted_made :
-      (R : Rules) → ruling ≡ Accepted → R ≡ rules_from (rules_of made ++ last_rules s o (x + n))
-      → DraftedAs (record { ruling = Accepted; rules = R }) (drafted s o)
+      (R : Rules) → came ≡ Ok tt → R ≡ rules_from (rules_of made ++ last_rules s o (x + n)) → DraftedAs (Ok R) (drafted s o)
   unfolding DraftedAs
   drafted_made R accepted eR =
       let rules : ℕ → Rules = λ last. rules_from (rules_of made ++ last_rules s o last) in
-      subst (DraftedAs (record { ruling = Accepted; rules = R })) (sym (drafted_go accepted)) (
-        refl,
-        eR ∙ ap (λ (i : ℕ). rules (i + n)) first ∙ ap (λ (i : ℕ). rules (live_count s + i)) size,
-      )
+      subst (DraftedAs (Ok R)) (sym (drafted_go accepted))
+      (ap Ok (eR ∙ ap (λ (i : ℕ). rules (i + n)) first ∙ ap (λ (i : ℕ). rules (live_count s + i)) size))
 
--- a refusal says no more than its cause
-pub stops_as : (r : Drafted) (d : Draft) (c : Cause) → r.ruling ≡ Refused c → d ≡ Draft.stop c → DraftedAs r d
+-- a refusal says its cause
+pub stops_as : (c : Cause) (d : Draft) → d ≡ Draft.stop c → DraftedAs (Err c) d
 unfolding DraftedAs
-stops_as r d c is e = subst (DraftedAs r) (sym e) is
+stops_as c d e = subst (DraftedAs (Err c)) (sym e) refl

@@ -1,3 +1,2 @@
 pub mod Moment
-pub mod PlacedAs
 pub mod DraftedAs

@@ -1,64 +1,66 @@
-// A line at the moment of an allocation: what it holds in the words of the board, with the offer's earlier allocations put in. The words are only
+// The lines at the moment of an allocation: what they hold in the words of the board, with the offer's earlier allocations put in. The words are only
 // read, for the offer may yet be refused.
-ghost use Rattle.std.specs.Prelude.{◌≡◌, ℕ, ◌≤◌, ◌<◌, length, get_or};
+ghost use Rattle.std.specs.Prelude.{◌≡◌, ◌≤◌, ◌<◌, length, get_or};
 ghost use Rattle.spec_plain.specs.Limits.{most_points, resources};
 ghost use Rattle.spec_plain.specs.Plain.{no_use};
-ghost use Rattle.part_allocations.specs.Allocations.{allocations_in};
-ghost use Rattle.part_allocations.specs.ReadAllocations.{ReadAllocations};
 ghost use Rattle.part_lines.specs.Asked.{Lined};
-ghost use Rattle.part_lines.specs.Placing.{AllFit};
+ghost use Rattle.part_lines.specs.Placing.{AllFit, AllFit-prop};
 ghost use Rattle.part_boardwords.specs.Layout.{cells_at};
 ghost use Rattle.part_boardwords.specs.Words.{word_in, lines_read, lines_in};
-ghost use Rattle.part_drafts.specs.Moment.{line_then};
 
-use part_allocations::{read_allocation, used_from};
+use part_allocations::{Allocations, used_from};
 use part_boardwords::{line_start, use_at};
-use spec_plain::Use;
+use spec_plain::{Settings, Use};
 
-// How many uses the line of a resource holds once the first k allocations are put in.
-pub fn number_in(w: &[u32], allocations: &[u32], k: usize, resource: u32) -> usize
-    requires { (cells_at ≤ length w.now) × Lined (lines_read (word_in w.now)) × ReadAllocations allocations.now k × (resource < resources) }
-    ensures { (x : ℕ) → result ≡ length (line_then x w.now allocations.now k resource) }
-{
-    let mut n = w[line_start(resource as usize)] as usize;
-    for j in 0..k {
-        let allocation = read_allocation(allocations, j);
-        if allocation.resource == resource {
-            n += 1;
-        }
-    }
-    n
+// The words of a board, its settings, the first point of the job that would come, and those of its allocations that are put in.
+#[derive(Clone, Copy)]
+pub struct Moment<'a> {
+    pub w: &'a [u32],
+    pub settings: Settings,
+    pub first: u32,
+    pub earlier: Allocations<'a>,
+    pub ghost words: { cells_at ≤ length w.now },
+    pub ghost lined: { Lined (lines_read (word_in w.now)) },
+    pub ghost few: { first ≤ most_points },
+    pub ghost fits: { AllFit first (lines_in w.now) earlier.list.now } by { AllFit-prop first (lines_in w.now) earlier.list.now },
 }
 
-// The use at a place of the line once the first k allocations are put in. They are looked through from the last one on: it is one of them, or where
-// one went in before it, it stood one place lower until then.
-pub fn use_in(
-    w: &[u32],
-    first: u32,
-    allocations: &[u32],
-    k: usize,
-    resource: u32,
-    place: usize,
-) -> Use
-    requires cells_at_in_bounds { (cells_at ≤ length w.now) × Lined (lines_read (word_in w.now))
-        × ReadAllocations allocations.now k × (resource < resources) × (first ≤ most_points) }
-    requires all_fit { AllFit first (lines_in w.now) (allocations_in allocations.now k) × (place < length (line_then first w.now allocations.now k resource)) }
-    ensures { result ≡ get_or (line_then first w.now allocations.now k resource) place no_use }
-{
-    let mut at = place;
-    let mut j = k;
-    while 0 < j {
-        j -= 1;
-        let allocation = read_allocation(allocations, j);
-        if allocation.resource == resource {
-            let there = allocation.place as usize;
-            if there == at {
-                return used_from(first, allocation);
-            }
-            if there < at {
-                at -= 1;
+impl<'a> Moment<'a> {
+    ghost use Rattle.part_drafts.specs.Moment.{line_at};
+
+    // How many uses the line of a resource holds.
+    pub fn number_in(self, resource: u32) -> usize
+        requires { resource < resources }
+        ensures { result ≡ length (line_at self.entry resource) }
+    {
+        let held = self.w[line_start(resource as usize)] as usize;
+        let more = self
+            .earlier
+            .list
+            .iter()
+            .filter(|a| a.resource == resource)
+            .count();
+        held + more
+    }
+
+    // The use at a place of the line. The allocations are looked through from the last one on: it is one of them, or where one went in before it, it
+    // stood one place lower until then.
+    pub fn use_in(self, resource: u32, place: usize) -> Use
+        requires { (resource < resources) × (place < length (line_at self resource)) }
+        ensures { result ≡ get_or (line_at self.entry resource) place no_use }
+    {
+        let mut at = place;
+        for allocation in self.earlier.list.iter().rev() {
+            if allocation.resource == resource {
+                let there = allocation.place as usize;
+                if there == at {
+                    return used_from(self.first, *allocation);
+                }
+                if there < at {
+                    at -= 1;
+                }
             }
         }
+        use_at(self.w, line_start(resource as usize), at)
     }
-    use_at(w, line_start(resource as usize), at)
 }

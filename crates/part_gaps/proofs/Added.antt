@@ -1,4 +1,5 @@
 -- A rule added to a list of cells is the rule added to its table.
+--   row_copied       the copy of a row
 --   Turn             one turn of the loop over rows: what relaxing a row requires and gives;  turn shows it
 --   relaxed_same     a row that no way across the rule can shorten
 --   added_length     the list keeps its length
@@ -12,47 +13,54 @@ use mathlib.Core.Logic.{◌⊎◌}
 use mathlib.Core.Path.{◌≡◌, refl, sym, ◌∙◌, ap}
 use Prim.Native.Nat.{ℕ, ◌+◌, ◌*◌, ◌%◌, ◌≤◌, ◌<◌}
 use native.Mathlib.Omega.{arith}
-use lib.ListN.{length, get_or}
+use lib.ListN.{length, get_or, take, drop}
+use lib.Seq.{get_or-take, get_or-drop}
 use Rattle.spec_plain.specs.Limits.{side, cell_count}
 use Rattle.spec_plain.specs.declared.Rule.{Rule}
-use Rattle.base_lists.proofs.Build.{build_at}
+use Rattle.base_lists.proofs.Build.{build_at, build_same}
 use Rattle.base_lists.proofs.Rewritten.{rewritten_length, rewritten_in, rewritten_below, rewritten_from, rewritten_is, ahead}
-use Rattle.base_lists.specs.Loops.{rewritten}
+use Rattle.base_lists.specs.Loops.{build, rewritten}
 use Rattle.spec_stn.proofs.Add.{add_closed}
 use Rattle.spec_stn.proofs.Agree.{agree_closed}
 use Rattle.spec_stn.specs.Table.{bias, Table, Closed, IsConsistent, Agree, add}
 use Rattle.part_gaps.specs.Cells.{cell, table_of, row_at, added_cell, relaxed, added, Usable, Whole}
 use Rattle.part_gaps.proofs.Overlaid.{row_next, overlaid_length, overlaid_agree, overlaid_rest, overlaid_past, overlaid_self, overlaid_same}
 
-pub record Turn (l : List ℕ) (n : ℕ) (r : Rule) (early late : ℕ) (row m : List ℕ) (a : ℕ) : Type 0 where
+-- the copy of row i: the first cells of the n from its place on
+pub row_copied : (l row : List ℕ) (i n : ℕ) → side ≤ n → row ≡ build (λ k. get_or (take n (drop (i * side) l)) k 0) side → row ≡ row_at l i
+row_copied l row i n room e =
+    e
+    ∙ build_same (λ k. get_or (take n (drop (i * side) l)) k 0) (λ j. cell l i j) side
+    (λ k h. get_or-take n (drop (i * side) l) k 0 (omega arith) ∙ get_or-drop (i * side) l k 0)
+
+pub record Turn (l : List ℕ) (n : ℕ) (r : Rule) (row m : List ℕ) (a : ℕ) : Type 0 where
   -- what relaxing row a requires: sums stay small, and no way is cut off
-  pub via_small : cell m a late ≤ bias + bias
+  pub via_small : cell m a r.late ≤ bias + bias
   pub row_small : (b : ℕ) → b < n → get_or row b 0 ≤ bias + bias
-  pub row_whole : (b : ℕ) → b < n → bias + r.more ≤ cell m a late + r.slack + get_or row b 0
+  pub row_whole : (b : ℕ) → b < n → bias + r.more ≤ cell m a r.late + r.slack + get_or row b 0
   pub cells_small : (b : ℕ) → b < n → cell m a b ≤ bias + bias
   -- and no cell of it exceeds the way by the early point
-  pub row_behind : (b : ℕ) → b < n → cell m a b + bias ≤ cell m a early + get_or row b 0
+  pub row_behind : (b : ℕ) → b < n → cell m a b + bias ≤ cell m a r.early + get_or row b 0
   -- what it gives: one more row of the table with the rule added
   pub next :
-      (x : List ℕ) → x ≡ rewritten (relaxed m row (cell m a late + r.slack) (bias + r.more)) m (a * side) (a * side + n)
+      (x : List ℕ) → x ≡ rewritten (relaxed m row (cell m a r.late + r.slack) (bias + r.more)) m (a * side) (a * side + n)
       → x ≡ rewritten (added_cell l n r) l 0 ((a + 1) * side)
 
 -- The rows before a are relaxed, so that row a of m is still that of l
 module _
     (l : List ℕ) (n : ℕ) (r : Rule) (size : length l ≡ cell_count) (few : n ≤ side) (u : Usable n r) (cl : Closed n (table_of l))
-    (whole : Whole n r (table_of l)) (early late : ℕ) (is-early : early ≡ r.early) (is-late : late ≡ r.late) (row : List ℕ)
-    (copy : row ≡ row_at l early) (m : List ℕ) (a : ℕ) (ha : a < n) (is : m ≡ rewritten (added_cell l n r) l 0 (a * side)) where
+    (whole : Whole n r (table_of l)) (row : List ℕ) (copy : row ≡ row_at l r.early) (m : List ℕ) (a : ℕ) (ha : a < n) (is : m ≡ rewritten (added_cell l n r) l 0 (a * side)) where
   still : (b : ℕ) → cell m a b ≡ cell l a b
   still b = ahead (added_cell l n r) l m 0 (a * side) is (a * side + b) (omega arith)
 
-  via : cell m a late ≡ cell l a r.late
-  via = still late ∙ ap (λ (j : ℕ). cell l a j) is-late
+  via : cell m a r.late ≡ cell l a r.late
+  via = still r.late
 
   onward : (b : ℕ) → b < n → get_or row b 0 ≡ cell l r.early b
-  onward b hb = rw (copy, is-early) (build_at (λ j. cell l r.early j) side b 0 (omega arith))
+  onward b hb = rw copy (build_at (λ j. cell l r.early j) side b 0 (omega arith))
 
   relaxed_next :
-      (x : List ℕ) → x ≡ rewritten (relaxed m row (cell m a late + r.slack) (bias + r.more)) m (a * side) (a * side + n)
+      (x : List ℕ) → x ≡ rewritten (relaxed m row (cell m a r.late + r.slack) (bias + r.more)) m (a * side) (a * side + n)
       → x ≡ rewritten (added_cell l n r) l 0 ((a + 1) * side)
   unfolding add
   relaxed_next x out =
@@ -60,7 +68,7 @@ module _
       (λ k h. rw out (rewritten_below f m (a * side) (a * side + n) k h)) (λ k h. rw out (rewritten_from f m (a * side) (a * side + n) k h))
     where
       f : ℕ → ℕ
-      f = relaxed m row (cell m a late + r.slack) (bias + r.more)
+      f = relaxed m row (cell m a r.late + r.slack) (bias + r.more)
 
       long : length m ≡ cell_count
       long = ap length is ∙ rewritten_length _ l 0 (a * side) ∙ size
@@ -72,10 +80,10 @@ module _
           (rewritten_in f m (a * side) (a * side + n) (a * side + b) (omega arith) (omega arith) (omega (arith, long))
           ∙ rw (column, onward b hb, still b, via))
 
-  direct : cell m a early ≡ cell l a r.early
-  direct = still early ∙ ap (λ (j : ℕ). cell l a j) is-early
+  direct : cell m a r.early ≡ cell l a r.early
+  direct = still r.early
 
-  pub turn : Turn l n r early late row m a
+  pub turn : Turn l n r row m a
   turn =
       record {
         via_small = omega (arith, via, cl.bounded a r.late ha u.late_live);

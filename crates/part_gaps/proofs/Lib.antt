@@ -3,4 +3,3 @@ pub mod Added
 pub mod Grown
 pub mod GapTable
 pub mod Dropped
-pub mod Copied

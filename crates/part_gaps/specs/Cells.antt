@@ -1,7 +1,6 @@
 -- The gap table as the list of its 65 x 65 cells, row by row: what the code holds, read as a table of stn, and what the code makes of it.
 -- All that changes a list writes a table over the cells of its first points, so that the laws of `overlaid` serve adding and growing.
 --   cell l i j              the cell (i, j) of the list l;  table_of l: the table that it holds
---   few_points, fewest_points   of a table of so few points only the rows of so many are copied: how many count as few, as fewest
 --   row_at l i               a copy of row i
 --   overlaid n c l          the list l with the table c written over the cells of the first n points;  overlay n c l k: what place k holds then
 --   relaxed l row via cut k   what place k holds when its row is relaxed: the least of what it held and the way that begins with via, goes on
@@ -18,12 +17,6 @@ use Rattle.spec_plain.specs.Limits.{side, cell_count}
 use Rattle.spec_plain.specs.declared.Rule.{Rule}
 use Rattle.base_lists.specs.Loops.{build, rewritten}
 use Rattle.spec_stn.specs.Table.{bias, Table, add, grow, grow_all, pick, old_number}
-
-abbrev pub few_points : ℕ
-few_points = 16
-
-abbrev pub fewest_points : ℕ
-fewest_points = 8
 
 abbrev pub cell : List ℕ → ℕ → ℕ → ℕ
 cell l i j = get_or l (i * side + j) 0

@@ -10,12 +10,10 @@ use spec_plain::limits;
 // The number that point x had before the m points from f on were dropped.
 fn old_number(f: usize, m: usize, x: usize) -> usize
     requires { (x ≤ side) × (m ≤ side) }
-    ensures { result ≡ old_number f m x }
+    ensures number { result ≡ old_number f m x }
+    ensures near { (x ≤ result) × (result ≤ x + m) }
 {
-    if x < f {
-        return x;
-    }
-    x + m
+    if x < f { x } else { x + m }
 }
 
 // `count` cells from `from` on moved down to the places from `to` on. A cell is read before its place is written.
@@ -23,18 +21,10 @@ fn move_cells(t: &mut [u32], to: usize, from: usize, count: usize)
     requires { (length t.old ≡ cell_count) × (to ≤ from) × (from + count ≤ cell_count) }
     ensures { t.new ≡ rewritten (λ k. get_or t.old (from + (k - to)) 0) t.old to (to + count) }
 {
+    // Stays: with `copy_within` points take a tenth to a fifth longer to drop: it has to do for places above the cells as for places below, and
+    // tests at each row which of the two it is. Here cells only ever move to places below.
     for k in 0..count {
         t[to + k] = t[from + k];
-    }
-}
-
-// The `count` cells from `from` on hold 0.
-fn clear_cells(t: &mut [u32], from: usize, count: usize)
-    requires { (length t.old ≡ cell_count) × (from + count ≤ cell_count) }
-    ensures { t.new ≡ rewritten (λ k. 0) t.old from (from + count) }
-{
-    for k in 0..count {
-        t[from + k] = 0;
     }
 }
 
@@ -48,7 +38,7 @@ fn drop_columns(t: &mut [u32], f: usize, m: usize, left: usize, a: usize)
     let to = a * limits::SIDE;
     move_cells(t, to, from, f);
     move_cells(t, to + f, from + f + m, left - f);
-    clear_cells(t, to + left, limits::SIDE - left);
+    t[to + left..to + limits::SIDE].fill(0);
 }
 
 // All rows of the table that is left.
@@ -68,5 +58,5 @@ pub fn drop_points(t: &mut [u32], f: usize, m: usize, n: usize)
 {
     let left = n - m;
     drop_rows(t, f, m, left);
-    clear_cells(t, left * limits::SIDE, limits::CELLS - left * limits::SIDE);
+    t[left * limits::SIDE..].fill(0);
 }

@@ -1,5 +1,5 @@
 // New points.
-ghost use Rattle.std.specs.Prelude.{◌≡◌, ℕ, ◌+◌, ◌*◌, ◌%◌, ◌≤◌, ◌<◌, length, get_or};
+ghost use Rattle.std.specs.Prelude.{◌≡◌, ℕ, ◌+◌, ◌*◌, ◌≤◌, ◌<◌, length};
 ghost use Rattle.spec_plain.specs.Limits.{side, cell_count};
 ghost use Rattle.base_lists.specs.Loops.{rewritten};
 ghost use Rattle.spec_stn.specs.Table.{bias, grow};
@@ -14,29 +14,20 @@ fn hang_column(t: &mut [u32], n: usize, most: u32)
     requires by_index { (i : ℕ) → i < n → cell t.old i 0 ≤ bias + bias }
     ensures { t.new ≡ rewritten (hung_cell t.old n most) t.old 0 (n * side) }
 {
+    // Stays: with `for row in t.chunks_exact_mut(limits::SIDE).take(n)` the proof does not close: what the cells hold after it stays open.
     for i in 0..n {
         t[i * limits::SIDE + n] = t[i * limits::SIDE] + most;
     }
 }
 
-// The row of the new point n: the gaps from it are those from the origin.
-fn hang_row(t: &mut [u32], n: usize)
-    requires { (length t.old ≡ cell_count) × (n < side) }
-    ensures { t.new ≡ rewritten (λ k. get_or t.old (k % side) 0) t.old (n * side) (n * side + n) }
-{
-    for j in 0..n {
-        t[n * limits::SIDE + j] = t[j];
-    }
-}
-
-// A new point, numbered n, from 0 to `most`: it hangs on the origin.
+// A new point, numbered n, from 0 to `most`: it hangs on the origin, so that the gaps from it are those from the origin.
 fn hang(t: &mut [u32], n: usize, most: u32)
     requires t_len { (length t.old ≡ cell_count) × (0 < n) × (n < side) × (most ≤ bias) }
     requires by_index { (i : ℕ) → i < n → cell t.old i 0 ≤ bias + bias }
     ensures { t.new ≡ overlaid (n + 1) (grow most n (table_of t.old)) t.old }
 {
     hang_column(t, n, most);
-    hang_row(t, n);
+    t.copy_within(..n, n * limits::SIDE);
     t[n * limits::SIDE + n] = BIAS;
 }
 

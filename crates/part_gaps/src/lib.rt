@@ -10,13 +10,13 @@ mod copying; // cells copied
 mod dropping; // points dropped
 mod growing; // new points
 
-ghost use Rattle.std.specs.Prelude.{◌≡◌, ◌-◌, ◌<◌, length};
+ghost use Rattle.std.specs.Prelude.{◌≡◌, ◌<◌, length};
 ghost use Rattle.spec_plain.specs.Limits.{side, cell_count};
 ghost use Rattle.spec_stn.specs.Table.{earliest, latest};
 ghost use Rattle.part_gaps.specs.Cells.{table_of};
 
 pub use adding::{add, entails, is_consistent};
-pub use copying::{FEW_POINTS, FEWEST_POINTS, cells_of, copy_cells, few_cells, fewest_cells};
+pub use copying::{FEW_CELLS, FEW_POINTS, FEWEST_CELLS, FEWEST_POINTS, first_cells};
 pub use dropping::drop_points;
 pub use growing::grow;
 use spec_plain::limits;
@@ -24,19 +24,12 @@ use spec_plain::limits;
 // What is added to a gap where it is stored: the least gap is then 0.
 pub const BIAS: u32 = 100_000_000;
 
-// What is left of a when b is taken away, and 0 where b is more.
-fn minus(a: u32, b: u32) -> u32
-    ensures { result ≡ a - b }
-{
-    if a < b { 0 } else { a - b }
-}
-
 // The earliest time of point x.
 pub fn earliest(t: &[u32], x: usize) -> u32
     requires { (length t.now ≡ cell_count) × (x < side) }
     ensures { result ≡ earliest (table_of t.now) x }
 {
-    minus(BIAS, t[x * limits::SIDE])
+    BIAS.saturating_sub(t[x * limits::SIDE])
 }
 
 // The latest time of point x.
@@ -44,5 +37,5 @@ pub fn latest(t: &[u32], x: usize) -> u32
     requires { (length t.now ≡ cell_count) × (x < side) }
     ensures { result ≡ latest (table_of t.now) x }
 {
-    minus(t[x], BIAS)
+    t[x].saturating_sub(BIAS)
 }

@@ -1,23 +1,26 @@
 -- The test of a table says what document 01 asks of it.
---   none_joined                 how `are_clear` tells that all cells are 0;  clear_part, clear_rest: cells tested part by part
+--   none_joined                 how `are_clear` tells that all cells are 0;  clear_parts: cells tested part by part
 --   limit_live, limit_rest      the limit of a live column and of the others
 --   in_range_row                 each cell of a live row is at most its limit;  in_range_bounded: so sums of live cells are small
 --   in_range_rest                every other cell is 0
 --   good_to, good_of            the test is true exactly where the cells are good;  gap_table_to, gap_table_of: exactly where GapTable holds
-use mathlib.Core.Bool.{true, false, ◌&&◌}
-use mathlib.Core.List.{List}
+use mathlib.Core.Bool.{Bool, true, ◌&&◌}
+use mathlib.Core.List.{List, []}
 use mathlib.Core.Logic.{◌⊎◌, inl, inr}
-use mathlib.Core.Path.{◌≡◌, sym, ◌∙◌, ap}
-use Prim.Native.Nat.{ℕ, ◌+◌, ◌-◌, ◌*◌, ◌/◌, ◌%◌, ◌≤◌, ◌<◌}
+use mathlib.Core.Path.{◌≡◌, sym, ◌∙◌, ap, ap₂}
+use Prim.Native.Nat.{ℕ, zero, suc, ◌+◌, ◌-◌, ◌*◌, ◌/◌, ◌%◌, ◌≤◌, ◌<◌}
 use native.Mathlib.Decide.{dec_lt, dec_le}
 use native.Mathlib.Omega.{arith}
 use lib.Bits.{bit_or, and_le_l, and_le_r, or_add_and}
 use lib.Dec.{leb, eqb}
-use lib.ListN.{get_or}
+use lib.ListN.{length, get_or, take, drop, length-drop}
+use lib.Seq.{length-take-le, get_or-take, get_or-drop, drop-drop}
+use native.Mathlib.Nat.{mul-le-mul_right}
+use Rattle.std.specs.Simd.{first_chunks}
 use borrow.Author.Tests.{lt-ltb, le-ltb, le-leb, leb-true, eqb-true, eq-eqb, ne_eqb}
 use Rattle.spec_plain.specs.Limits.{side, cell_count}
 use Rattle.base_lists.specs.Loops.{all_below}
-use Rattle.base_lists.proofs.AllBelow.{both_true, all_below_to, all_below_of, all_below_part, all_below_rest}
+use Rattle.base_lists.proofs.AllBelow.{both_true, all_below_to, all_below_of, all_below_same, all_below_split, all_below_blocks}
 use Rattle.spec_stn.specs.Table.{bias}
 use Rattle.part_gaps.specs.Cells.{cell, table_of, Bounded}
 use Rattle.part_gaps.specs.GapTable.{GapTable}
@@ -39,16 +42,44 @@ none_joined a b = go (dec_le a 0) (dec_le b 0)
     go (no x) d =
         rw (ne_eqb a 0 (λ e. x (omega arith))) (ne_eqb (bit_or a b) 0 (λ e. x (omega (arith, or_add_and a b, and_le_r a b))))
 
--- the cells of a place on, tested part by part: `at` is where the part begins
-module _ (l : List ℕ) (from at m : ℕ) (far : from ≤ at) where
-  same : (k : ℕ) → k < m → eqb (get_or l (at + k) 0) 0 ≡ eqb (get_or l (from + (at - from + k)) 0) 0
-  same k h = ap (λ (p : ℕ). eqb (get_or l p 0) 0) {x = at + k} {y = from + (at - from + k)} (omega arith)
+-- the cells from a place on, tested in parts of b cells each, and what is left of them
+chunk_at : (b m : ℕ) (l : List ℕ) (k : ℕ) → k < m → get_or (first_chunks b m l) k [] ≡ take b (drop (k * b) l)
+chunk_at b zero l k h = absurd (omega arith)
+chunk_at b (suc m) l zero h = ap (λ (i : ℕ). take b (drop i l)) {x = 0} {y = 0 * b} (omega arith)
+chunk_at b (suc m) l (suc k) h =
+    chunk_at b m (drop b l) k (omega arith)
+    ∙ ap (take b) (drop-drop (k * b) b l ∙ ap (λ (i : ℕ). drop i l) {x = b + k * b} {y = suc k * b} (omega arith))
 
-  pub clear_part : (n : ℕ) → at - from + m ≤ n → clear l at m ≡ false → false ≡ clear l from n
-  clear_part n h = all_below_part (λ k. eqb (get_or l (from + k) 0) 0) (λ k. eqb (get_or l (at + k) 0) 0) (at - from) m same n h
+pub clear_parts :
+    (l : List ℕ) (from m b n : ℕ) (parts : List (List ℕ)) (rest : List ℕ) (p q : Bool) → from + n ≡ length l → m * b + length rest ≡ n
+    → parts ≡ first_chunks b m (drop from l) → length parts ≡ m → rest ≡ drop (m * b) (drop from l)
+    → p ≡ all_below (λ k. clear (get_or parts k []) 0 (length (get_or parts k []))) (length parts) → q ≡ clear rest 0 (length rest)
+    → (p && q) ≡ clear l from n
+clear_parts l from m b n parts rest p q room whole ep many er tp tq =
+    ap₂ ◌&&◌ (tp ∙ rw many (all_below_same _ (λ k. all_below (λ i. f (k * b + i)) b) m one ∙ all_below_blocks f b m))
+    (tq ∙ same rest (m * b) (length rest) (λ i h. at_rest i))
+    ∙ sym (all_below_split f (m * b) (length rest)) ∙ ap (all_below f) whole
+  where
+    f : ℕ → Bool
+    f j = eqb (get_or l (from + j) 0) 0
 
-  pub clear_rest : (n : ℕ) → at - from + m ≡ n → clear l from (at - from) ≡ true → clear l at m ≡ clear l from n
-  clear_rest n is = all_below_rest (λ k. eqb (get_or l (from + k) 0) 0) (λ k. eqb (get_or l (at + k) 0) 0) (at - from) m same n is
+    same : (x : List ℕ) (at k : ℕ) → ((i : ℕ) → i < k → get_or x i 0 ≡ get_or l (from + (at + i)) 0) → clear x 0 k ≡ all_below (λ i. f (at + i)) k
+    same x at k is =
+        all_below_same (λ i. eqb (get_or x (0 + i) 0) 0) (λ i. f (at + i)) k
+        (λ i h. ap (λ (v : ℕ). eqb v 0) (ap (λ (j : ℕ). get_or x j 0) {x = 0 + i} {y = i} (omega arith) ∙ is i h))
+
+    at_rest : (i : ℕ) → get_or rest i 0 ≡ get_or l (from + (m * b + i)) 0
+    at_rest i = ap (λ (x : List ℕ). get_or x i 0) er ∙ get_or-drop (m * b) (drop from l) i 0 ∙ get_or-drop from l (m * b + i) 0
+
+    one : (k : ℕ) → k < m → clear (get_or parts k []) 0 (length (get_or parts k [])) ≡ all_below (λ i. f (k * b + i)) b
+    one k h =
+        let part : List ℕ = take b (drop (k * b) (drop from l)) in
+        let is : get_or parts k [] ≡ part = ap (λ (x : List (List ℕ)). get_or x k []) ep ∙ chunk_at b m (drop from l) k h in
+        let near : (k + 1) * b ≤ m * b = mul-le-mul_right b (let le : k + 1 ≤ m = omega arith in le) in
+        let fits : length part ≡ b =
+        length-take-le b (drop (k * b) (drop from l)) (omega (arith, near, length-drop (k * b) (drop from l), length-drop from l)) in
+        ap (λ (x : List ℕ). clear x 0 (length x)) is ∙ ap (clear part 0) fits
+        ∙ same part (k * b) b (λ i lt. get_or-take b (drop (k * b) (drop from l)) i 0 lt ∙ get_or-drop (k * b) (drop from l) i 0 ∙ get_or-drop from l (k * b + i) 0)
 
 module _ (n j : ℕ) where
   pub limit_live : j < n → limit n j ≡ bias + bias

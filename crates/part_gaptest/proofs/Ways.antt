@@ -5,11 +5,11 @@
 --   few_test            the same in a row of 16 places: those past the live points are good anyhow;  few_fits: and its numbers are small
 --   few_turn            a place more of such a row
 --   lift_row            the row of what lifts 32 places;  lift_at: what it has for place k
---   pair_next           two ways tested more
-use mathlib.Core.Bool.{Bool, true, ◌&&◌, ◌||◌}
+--   pair_next, pair_fails   two ways tested more; a pair that fails
+use mathlib.Core.Bool.{Bool, true, false, false≢true, ◌&&◌, ◌||◌}
 use mathlib.Core.List.{List}
 use mathlib.Core.Logic.{◌⊎◌, inl, inr}
-use mathlib.Core.Path.{◌≡◌, refl, ◌∙◌, ap, ap₂}
+use mathlib.Core.Path.{◌≡◌, refl, sym, ◌∙◌, ap, ap₂}
 use Prim.Native.Nat.{ℕ, ◌+◌, ◌-◌, ◌*◌, ◌^◌, ◌≤◌, ◌<◌}
 use native.Mathlib.Decide.{dec_lt, dec_le}
 use native.Mathlib.Omega.{arith}
@@ -115,6 +115,13 @@ unfolding rewritten build
 lift_row = refl
 
 -- ---- pairs of ways
+
+pub pair_fails : (f : ℕ → Bool) (n j k : ℕ) → j < n → k < n → (f j && f k) ≡ false → false ≡ all_below f n
+pair_fails f n j k l m failed = go (all_below f n) refl
+  where
+    go : (all : Bool) → all_below f n ≡ all → false ≡ all
+    go true e = absurd (false≢true (sym failed ∙ rw (all_below_to f n e j l, all_below_to f n e k m)))
+    go false e = refl
 
 pub pair_next :
     (f : ℕ → Bool) (j k : ℕ) → all_below f j ≡ true → (k ≡ j) ⊎ (k ≡ j + 1) → (f j && f k) ≡ true → all_below f (k + 1) ≡ true

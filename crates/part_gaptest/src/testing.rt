@@ -13,10 +13,7 @@ use spec_plain::limits;
 fn limit(n: usize, j: usize) -> u32
     ensures { result ≡ limit n j }
 {
-    if n <= j {
-        return 0;
-    }
-    2 * BIAS
+    if n <= j { 0 } else { 2 * BIAS }
 }
 
 // Each cell of row i, that of a live point, is within its limit.
@@ -26,19 +23,18 @@ fn row_in_range(t: &[u32], n: usize, i: usize) -> bool
 {
     let mut ok = true;
     for j in 0..limits::SIDE {
-        ok = ok & (t[i * limits::SIDE + j] <= limit(n, j));
+        ok &= t[i * limits::SIDE + j] <= limit(n, j);
     }
     ok
 }
 
-// The `count` cells from `from` on are 0. They are joined, and looked at once.
-fn are_clear(t: &[u32], from: usize, count: usize) -> bool
-    requires { (length t.now ≡ cell_count) × (from + count ≤ cell_count) }
-    ensures { result ≡ clear t.now from count }
+// All cells are 0. They are joined, and looked at once.
+fn are_clear(cells: &[u32]) -> bool
+    ensures { result ≡ clear cells.now 0 (length cells.now) }
 {
     let mut all = 0;
-    for k in 0..count {
-        all = all | t[from + k];
+    for cell in cells {
+        all |= *cell;
     }
     all == 0
 }
@@ -49,14 +45,8 @@ fn is_rest_clear(t: &[u32], from: usize) -> bool
     requires { (length t.now ≡ cell_count) × (from ≤ cell_count) }
     ensures { result ≡ clear t.now from (cell_count - from) }
 {
-    let mut at = from;
-    while at + 256 <= limits::CELLS {
-        if !are_clear(t, at, 256) {
-            return false;
-        }
-        at += 256;
-    }
-    are_clear(t, at, limits::CELLS - at)
+    let (parts, rest) = t[from..].as_chunks::<256>();
+    parts.iter().all(|part| are_clear(part)) && are_clear(rest)
 }
 
 // Each row of a live point is within its limits.
@@ -64,11 +54,7 @@ fn are_rows_in_range(t: &[u32], n: usize) -> bool
     requires { (length t.now ≡ cell_count) × (n ≤ side) }
     ensures { result ≡ all_below (row_in_range t.now n) n }
 {
-    let mut ok = true;
-    for i in 0..n {
-        ok = ok & row_in_range(t, n, i);
-    }
-    ok
+    (0..n).all(|i| row_in_range(t, n, i))
 }
 
 // Each cell is within its limit: past this test sums of cells of live points are small.
@@ -76,10 +62,7 @@ fn in_range(t: &[u32], n: usize) -> bool
     requires { (length t.now ≡ cell_count) × (n ≤ side) }
     ensures { result ≡ in_range t.now n }
 {
-    if !are_rows_in_range(t, n) {
-        return false;
-    }
-    is_rest_clear(t, n * limits::SIDE)
+    are_rows_in_range(t, n) && is_rest_clear(t, n * limits::SIDE)
 }
 
 // The gap from each point to itself is 0.
@@ -87,11 +70,7 @@ fn is_diagonal(t: &[u32], n: usize) -> bool
     requires { (length t.now ≡ cell_count) × (n ≤ side) }
     ensures { result ≡ is_diagonal t.now n }
 {
-    let mut ok = true;
-    for i in 0..n {
-        ok = ok & (t[i * limits::SIDE + i] == BIAS);
-    }
-    ok
+    (0..n).all(|i| t[i * limits::SIDE + i] == BIAS)
 }
 
 // Each point lies from 0 to the horizon.
@@ -100,11 +79,7 @@ fn in_windows(t: &[u32], n: usize, horizon: u32) -> bool
     ensures { result ≡ in_windows t.now n horizon }
 {
     let top = BIAS + horizon;
-    let mut ok = true;
-    for i in 0..n {
-        ok = ok & ((t[i * limits::SIDE] <= BIAS) & (t[i] <= top));
-    }
-    ok
+    (0..n).all(|i| t[i * limits::SIDE] <= BIAS && t[i] <= top)
 }
 
 // Whether these are the cells of a good table of n live points, whatever numbers they hold: their range is tested first.
@@ -112,14 +87,5 @@ pub fn is_gap_table(t: &[u32], n: usize, horizon: u32) -> bool
     requires { (length t.now ≡ cell_count) × (n ≤ side) × (horizon ≤ bias) }
     ensures { result ≡ is_gap_table t.now n horizon }
 {
-    if !in_range(t, n) {
-        return false;
-    }
-    if !is_diagonal(t, n) {
-        return false;
-    }
-    if !in_windows(t, n, horizon) {
-        return false;
-    }
-    is_closed(t, n)
+    in_range(t, n) && is_diagonal(t, n) && in_windows(t, n, horizon) && is_closed(t, n)
 }

@@ -41,33 +41,24 @@ fn ways_hold(t: &[u32], n: usize, i: usize, a: usize, b: usize) -> bool
     let other = t[direct + b];
     let mut all = TOP;
     for k in 0..n {
-        all = all
-            & (lifted(way, t[first + k], t[direct + k])
-                & lifted(other, t[second + k], t[direct + k]));
+        all &= lifted(way, t[first + k], t[direct + k])
+            & lifted(other, t[second + k], t[direct + k]);
     }
     TOP <= all
 }
 
-// The way that is tested beside way j: the next one, and the same once more where j is the last.
-fn partner(j: usize, n: usize) -> usize
-    requires { (j < n) × (n ≤ side) }
-    ensures { ((result ≡ j) ⊎ (result ≡ j + 1)) × (j ≤ result) × (result < n) }
-{
-    if j + 1 < n {
-        return j + 1;
-    }
-    j
-}
-
-// No cell of row i exceeds the way by any point.
+// No cell of row i exceeds the way by any point. Two ways are tested at once, the last of an odd number with itself.
 fn row_holds(t: &[u32], n: usize, i: usize) -> bool
     requires t_len { (length t.now ≡ cell_count) × (n ≤ side) × (i < n) }
     requires bounded { Bounded n (table_of t.now) }
     ensures { result ≡ row_holds t.now n i }
 {
     let mut j = 0;
+    // Stays: with `for pair in 0..n / 2` a test of 64 points takes a seventh longer, and with `all` in place of a loop one of 33 a twentieth. With
+    // `for j in (0..n).step_by(2)` the proof doesn't close: that no pair is left where the loop ends after a turn is known under no name of the kit
+    // that a proof may cite.
     while j < n {
-        let next = partner(j, n);
+        let next = (j + 1).min(n - 1);
         if !ways_hold(t, n, i, j, next) {
             return false;
         }
@@ -82,12 +73,7 @@ fn are_many_closed(t: &[u32], n: usize) -> bool
     requires bounded { Bounded n (table_of t.now) }
     ensures { result ≡ is_closed t.now n }
 {
-    for i in 0..n {
-        if !row_holds(t, n, i) {
-            return false;
-        }
-    }
-    true
+    (0..n).all(|i| row_holds(t, n, i))
 }
 
 // ---- up to 16 points
@@ -98,9 +84,7 @@ fn lift_row() -> [u32; 32]
     ensures { result ≡ build lift 32 }
 {
     let mut next = [TOP; 32];
-    for k in 0..16 {
-        next[k] = LIFT;
-    }
+    next[..16].fill(LIFT);
     next
 }
 
@@ -125,7 +109,7 @@ fn few_way_holds(t: &[u32], lifts: &[u32; 32], n: usize, i: usize, j: usize) -> 
     let way = t[direct + j];
     let mut all = TOP;
     for k in 0..16 {
-        all = all & lifted_by(lifts[from + k], way, t[onward + k], t[direct + k]);
+        all &= lifted_by(lifts[from + k], way, t[onward + k], t[direct + k]);
     }
     TOP <= all
 }
@@ -136,6 +120,7 @@ fn few_row_holds(t: &[u32], lifts: &[u32; 32], n: usize, i: usize) -> bool
     requires n_value { (in_range t.now n ≡ true) × (lifts.now ≡ build lift 32) }
     ensures { result ≡ row_holds t.now n i }
 {
+    // Stays: with `all` in place of the loop a test of 16 points takes a fifth longer.
     for j in 0..n {
         if !few_way_holds(t, lifts, n, i, j) {
             return false;
@@ -151,12 +136,7 @@ fn are_few_closed(t: &[u32], n: usize) -> bool
     ensures { result ≡ is_closed t.now n }
 {
     let lifts = lift_row();
-    for i in 0..n {
-        if !few_row_holds(t, &lifts, n, i) {
-            return false;
-        }
-    }
-    true
+    (0..n).all(|i| few_row_holds(t, &lifts, n, i))
 }
 
 // ---- any number
@@ -168,7 +148,8 @@ pub fn is_closed(t: &[u32], n: usize) -> bool
     ensures { result ≡ is_closed t.now n }
 {
     if n <= 16 {
-        return are_few_closed(t, n);
+        are_few_closed(t, n)
+    } else {
+        are_many_closed(t, n)
     }
-    are_many_closed(t, n)
 }

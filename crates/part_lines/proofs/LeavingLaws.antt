@@ -1,19 +1,15 @@
 -- Laws of what stays when points leave: the m points from f on.
 --   goes_below               a point that leaves is one of them
---   goes_later               a point that stays and is not before them is past them all
---   over_before, over_later  the new number of a point that stays
---   stays_none, stays_one    what stays of one use
 --   staying_append           what stays of two parts of a line;  few_stay: no more than there were
 --   stays_of, stayed_all      all lines: what stays of a line, by the arrays that hold them
 use mathlib.Core.Path.{◌≡◌, refl, sym, ◌∙◌, ap}
 use mathlib.Core.Bool.{Bool, true, false, false≢true, cond, ◌&&◌}
 use mathlib.Core.List.{List, [], ◌∷◌, ◌++◌, map, append_assoc}
-use Prim.Native.Nat.{ℕ, suc, ◌+◌, ◌-◌, ◌≤◌, ◌<◌}
-use native.Mathlib.Decide.{dec_lt}
+use Prim.Native.Nat.{ℕ, suc, ◌+◌, ◌≤◌, ◌<◌}
 use native.Mathlib.Omega.{arith}
 use lib.Dec.{leb, ltb}
 use lib.ListN.{length}
-use borrow.Author.Tests.{lt-ltb, le-ltb, ltb-true, le-leb}
+use borrow.Author.Tests.{ltb-true}
 use Rattle.spec_plain.specs.Plain.{goes, new_number, staying}
 use Rattle.part_lines.specs.ArrayLists.{line_of, line_from, lines_of, lines_from}
 use Rattle.spec_plain.specs.declared.Use.{Use}
@@ -29,37 +25,9 @@ goes_below f m x e = go (leb f x) e
     go true t = ltb-true x (f + m) t
     go false t = absurd (false≢true t)
 
-pub goes_later : (f m x : ℕ) → goes f m x ≡ false → f ≤ x → f + m ≤ x
-unfolding goes
-goes_later f m x e h = go (dec_lt x (f + m))
-  where
-    go : Dec (x < f + m) → f + m ≤ x
-    go (no ge) = omega arith
-    go (yes lt) =
-        let t : (leb f x && ltb x (f + m)) ≡ true = rw (le-leb f x h, lt-ltb x (f + m) lt) in
-        absurd (false≢true (sym e ∙ t))
-
-pub over_before : (f m x : ℕ) → x < f → new_number f m x ≡ x
-unfolding new_number
-over_before f m x h = rw (lt-ltb x f h)
-
-pub over_later : (f m x : ℕ) → f ≤ x → new_number f m x ≡ x - m
-unfolding new_number
-over_later f m x h = rw (le-ltb x f h)
-
 -- ---- a line
 
 module _ (f m : ℕ) where
-  pub stays_none : (u : Use) → goes f m u.point ≡ true → staying f m (u ∷ []) ≡ []
-  unfolding staying
-  stays_none u e = rw e
-
-  pub stays_one :
-      (u : Use) → goes f m u.point ≡ false
-      → staying f m (u ∷ []) ≡ record { point = new_number f m u.point; offset = u.offset; length = u.length } ∷ []
-  unfolding staying
-  stays_one u e = rw e
-
   pub few_stay : (l : List Use) → length (staying f m l) ≤ length l
   unfolding staying
   few_stay [] = omega arith

@@ -1,41 +1,30 @@
 -- Arrays as lists, and lists laid into arrays. The plain machine is over lists; the code holds each in an array with a count. Only these
 -- names stand between the two.
---   jobs_of, line_of, lines_of, rules_of, steps_of           the list that is held: the first `count` places
+--   jobs_of, line_of, lines_of, rules_of                    the list that is held: the first `count` places
 --   jobs_from, line_from, lines_from, rules_from            the list laid into an array, 0 in every place not in use
---   maybe_from rs                                        a list of one rule or none
 --   most_rules                                           the most rules that one call makes: a plan makes 1 by rule (b), two for each step by (c), two for
 --                                                       each allocation by (d), 1 by (e) and 1 by its due time
---   no_job, no_rule, no_step, no_line                       what a place not in use holds; `no_use` is the plain machine's
---   storing q m                                         the rules q with a rule or none stored behind them
+--   no_job, no_rule, no_line                                what a place not in use holds; `no_use` is the plain machine's
 -- Answers of the code as answers of the plain machine:
---   end_rule d last e   rule (e) with a job whose last point is e - 1; none where e is 0
---   answered c ls rs   what placing came to, by its ruling: the lines and rules are left out where it is a refusal
---   held_offer          what was read of an offer as an offer
-use Rattle.std.specs.Prelude.{ℕ, zero, suc, ◌+◌, ◌*◌, List, [], ◌∷◌, map, length, get_or, set, take}
-use Rattle.base_rulings.specs.declared.Ruling.{Ruling}
-use Rattle.base_rulings.specs.declared.Ruling.TheVariants.{Accepted, Refused}
+--   end_rule d last e   rule (e) with a job whose last point is e, if there is one
+--   answered c ls rs   what placing came to, by its answer: the lines and rules are left out where it is a refusal
+use Rattle.std.specs.Prelude.{ℕ, ◌+◌, ◌*◌, List, [], ◌∷◌, map, length, take, ⊤, Option, Some, None, Result, Ok, Err}
+use Rattle.base_rulings.specs.declared.Cause.{Cause}
 use Rattle.part_lines.specs.Padded.{padded}
 use Rattle.spec_plain.specs.Limits.{most_jobs, most_uses, most_steps, most_allocations}
-use Rattle.spec_plain.specs.Plain.{Offer, Placed, new_job, no_use}
+use Rattle.spec_plain.specs.Plain.{Placed, new_job, no_use}
 use Rattle.spec_plain.specs.declared.Job.{Job}
 use Rattle.part_lines.specs.declared.Jobs.{Jobs}
 use Rattle.spec_plain.specs.declared.Use.{Use}
 use Rattle.part_lines.specs.declared.Line.{Line}
 use Rattle.spec_plain.specs.declared.Rule.{Rule}
 use Rattle.part_lines.specs.declared.rulelist.Rules.{Rules}
-use Rattle.spec_plain.specs.declared.Allocation.{Allocation}
-use Rattle.spec_plain.specs.declared.Step.{Step}
-use Rattle.part_lines.specs.declared.Steps.{Steps}
-use Rattle.part_lines.specs.declared.rulelist.Maybe.{Maybe}
 
 abbrev pub no_job : Job
 no_job = new_job 0 0 0
 
 abbrev pub no_rule : Rule
 no_rule = record { early = 0; more = 0; late = 0; slack = 0 }
-
-abbrev pub no_step : Step
-no_step = record { shortest = 0; longest = 0 }
 
 -- no array of lines has it; it is what reading past their end would give
 abbrev pub no_line : Line
@@ -68,22 +57,10 @@ rules_of r = take r.count r.rules
 abbrev pub rules_from : List Rule → Rules
 rules_from rs = record { count = length rs; rules = padded most_rules no_rule rs }
 
-abbrev pub maybe_from : List Rule → Maybe
-maybe_from rs = record { count = length rs; rule = get_or rs 0 no_rule }
+unfoldable pub end_rule : ℕ → ℕ → Option ℕ → List Rule
+end_rule d last None = []
+end_rule d last (Some e) = record { early = e; more = d; late = last; slack = 0 } ∷ []
 
-abbrev pub storing : Rules → Maybe → Rules
-storing q m = record { count = q.count + m.count; rules = set q.rules q.count m.rule }
-
-abbrev pub steps_of : Steps → List Step
-steps_of s = take s.count s.steps
-
-unfoldable pub end_rule : ℕ → ℕ → ℕ → List Rule
-end_rule d last zero = []
-end_rule d last (suc e) = record { early = e; more = d; late = last; slack = 0 } ∷ []
-
-unfoldable pub answered : Ruling → List (List Use) → List Rule → Placed
-answered Accepted ls rs = Placed.done ls rs
-answered (Refused c) ls rs = Placed.stop c
-
-abbrev pub held_offer : ℕ → ℕ → Steps → List Allocation → Offer
-held_offer batch due steps allocations = record { batch = batch; due = due; steps = steps_of steps; allocations = allocations }
+unfoldable pub answered : Result ⊤ Cause → List (List Use) → List Rule → Placed
+answered (Ok u) ls rs = Placed.done ls rs
+answered (Err c) ls rs = Placed.stop c

@@ -1,11 +1,12 @@
 // What stays of a use when points leave: the m points from f on.
-ghost use Rattle.std.specs.Prelude.{◌≡◌, false, [], ◌∷◌, ◌+◌, ◌≤◌, length, get_or};
+ghost use Rattle.std.specs.Prelude.{◌≡◌, false, [], ◌∷◌, ◌+◌, ◌≤◌, option_to_list};
 ghost use Rattle.spec_plain.specs.Limits.{side};
-ghost use Rattle.spec_plain.specs.Plain.{no_use, goes, new_number, staying};
+ghost use Rattle.spec_plain.specs.Plain.{goes, new_number, staying};
 
 use spec_plain::Use;
 
-// Whether point x is one of those that leave.
+// Whether point x is one of those that leave. Joined by `&`, with no branch: every use of a board may be asked.
+#[tactic(auto, unfolding(spec_plain::specs::Plain::goes))]
 pub fn goes(f: u32, m: u32, x: u32) -> bool
     requires { f + m ≤ side }
     ensures { result ≡ goes f m x }
@@ -14,6 +15,7 @@ pub fn goes(f: u32, m: u32, x: u32) -> bool
 }
 
 // The new number of a point that stays.
+#[tactic(auto, unfolding(spec_plain::specs::Plain::new_number, spec_plain::specs::Plain::goes))]
 fn over(f: u32, m: u32, x: u32) -> u32
     requires { goes f m x ≡ false }
     ensures { result ≡ new_number f m x }
@@ -24,38 +26,18 @@ fn over(f: u32, m: u32, x: u32) -> u32
     x - m
 }
 
-pub fn no_use() -> Use
-    ensures { result ≡ no_use }
-{
-    Use {
-        point: 0,
-        offset: 0,
-        length: 0,
-    }
-}
-
-// How many stay of one use.
-pub fn stay_count(u: Use, f: u32, m: u32) -> usize
-    requires { f + m ≤ side }
-    ensures { result ≡ length (staying f m (u ∷ [])) }
-{
-    if goes(f, m, u.point) {
-        return 0;
-    }
-    1
-}
-
 // What stays of one use: itself with its point renumbered, or none.
-pub fn stay_use(u: Use, f: u32, m: u32) -> Use
+#[tactic(auto, unfolding(spec_plain::specs::Plain::staying))]
+pub fn staying(u: Use, f: u32, m: u32) -> Option<Use>
     requires { f + m ≤ side }
-    ensures { result ≡ get_or (staying f m (u ∷ [])) 0 no_use }
+    ensures { option_to_list result ≡ staying f m (u ∷ []) }
 {
     if goes(f, m, u.point) {
-        return no_use();
+        return None;
     }
-    Use {
+    Some(Use {
         point: over(f, m, u.point),
         offset: u.offset,
         length: u.length,
-    }
+    })
 }

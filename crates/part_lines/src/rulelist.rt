@@ -1,78 +1,88 @@
 // The list of rules: how rules are put behind those that are there, and the rules (b), (c) and (d) and of a due time. Those that the jobs under way
 // make stand in the crate part_jobwords.
-ghost use Rattle.std.specs.Prelude.{◌≡◌, [], ◌∷◌, ◌++◌, ◌+◌, ◌*◌, ◌≤◌, get_or};
+ghost use Rattle.std.specs.Prelude.{◌≡◌, [], ◌∷◌, ◌++◌, ◌+◌, ◌*◌, ◌≤◌, length, get_or, option_to_list};
 ghost use Rattle.spec_plain.specs.Limits.{most_points, most_steps};
 ghost use Rattle.spec_plain.specs.Plain.{end_of, tray_gap, not_before, not_after, in_order, durations, due_rules};
-ghost use Rattle.part_lines.specs.ArrayLists.{steps_of, rules_of, rules_from, maybe_from, no_rule};
+ghost use Rattle.part_lines.specs.ArrayLists.{rules_of, rules_from, most_rules, no_rule};
 ghost use Rattle.part_lines.specs.Asked.{Short, Room};
 
-use crate::Steps;
 use spec_plain::{Rule, Settings, Step, Use, limits};
 
 // A plan makes at most 1 rule by (b), two for each step by (c), two for each allocation by (d), 1 by (e) and 1 by its due time. Other calls make
 // fewer.
 pub const MOST_RULES: usize = 1 + 2 * limits::MOST_STEPS + 2 * limits::MOST_ALLOCATIONS + 2;
 
+// What a place not in use holds.
+const NO_RULE: Rule = Rule {
+    early: 0,
+    more: 0,
+    late: 0,
+    slack: 0,
+};
+
 // The rules that one call makes.
-#[derive(Clone, Copy)]
+// Stays: with the kit's `ArrayVec<Rule, 83>`, for which `push` and `extend` prove too, 10 to 25 rules put into a list and read take 15 in 100 more
+// instructions; and in the kit a generic struct of our own has no array of a type parameter.
+#[derive(Clone, Copy, Debug, PartialEq, Eq)]
 pub struct Rules {
     pub count: usize,
     pub rules: [Rule; MOST_RULES],
 }
 
-pub fn no_rules() -> Rules
-    ensures { result ≡ rules_from [] }
-{
-    let none = no_rule();
-    let zero = none.rule;
-    Rules {
-        count: 0,
-        rules: [zero; MOST_RULES],
+impl Rules {
+    pub fn new() -> Rules
+        ensures { result ≡ rules_from [] }
+    {
+        Rules {
+            count: 0,
+            rules: [NO_RULE; MOST_RULES],
+        }
     }
-}
 
-// A rule or none: how many there are, and the rule. It is stored behind the others in any case, 0 where there is none; so nothing is
-// tested in the loops that store, and the list of rules goes into no call.
-#[derive(Clone, Copy)]
-pub struct Maybe {
-    pub count: usize,
-    pub rule: Rule,
-}
-
-pub fn no_rule() -> Maybe
-    ensures { result ≡ maybe_from [] }
-{
-    let none = Rule {
-        early: 0,
-        more: 0,
-        late: 0,
-        slack: 0,
-    };
-    Maybe {
-        count: 0,
-        rule: none,
+    // The rules that there are.
+    pub fn as_slice(&self) -> &[Rule]
+        requires { self.now.count ≤ most_rules }
+        ensures { result.now ≡ rules_of self.now }
+    {
+        &self.rules[..self.count]
     }
-}
 
-pub fn one_rule(rule: Rule) -> Maybe
-    ensures { result ≡ maybe_from (rule ∷ []) }
-{
-    Maybe { count: 1, rule }
-}
+    // One more rule.
+    // Stays: how many more rules fit is another number at each call, so that `Room` is asked there and is no fact of the type.
+    #[tactic(auto, using(crate::proofs::RuleLaws::pushed))]
+    pub fn push(&mut self, rule: Rule)
+        requires { Room 1 self.old }
+        ensures { self.new ≡ rules_from (rules_of self.old ++ (rule ∷ [])) }
+    {
+        self.rules[self.count] = rule;
+        self.count += 1;
+    }
 
-// The rules with one more.
-pub fn push(rules: Rules, rule: Rule) -> Rules
-    requires { Room 1 rules }
-    ensures { result ≡ rules_from (rules_of rules ++ (rule ∷ [])) }
-{
-    let mut next = rules;
-    let at = next.count;
-    next.rules[at] = rule;
-    next.count = at + 1;
-    next
+    // One more rule, where there is one.
+    pub fn extend(&mut self, rule: Option<Rule>)
+        requires { Room 1 self.old }
+        ensures { self.new ≡ rules_from (rules_of self.old ++ option_to_list rule) }
+    {
+        if let Some(rule) = rule {
+            self.push(rule);
+        }
+    }
+
+    // The rules (c) of an offer's steps, of which the first runs from the point x.
+    pub fn add_durations(&mut self, x: u32, steps: &[Step])
+        requires { Room (2 * most_steps) self.old × (x ≤ most_points) × (length steps.now ≤ most_steps) }
+        ensures { self.new ≡ rules_from (rules_of self.old ++ durations x steps.now) }
+    {
+        for (k, step) in steps.iter().enumerate() {
+            let from = x + k as u32;
+            self.push(least_rule(from, *step));
+            self.push(most_rule(from, *step));
+        }
+    }
 }
 
 // The point x is at `time` or later.
+#[tactic(auto, unfolding(spec_plain::specs::Plain::not_before))]
 pub fn not_before(x: u32, time: u32) -> Rule
     ensures { result ≡ not_before x time }
 {
@@ -85,6 +95,7 @@ pub fn not_before(x: u32, time: u32) -> Rule
 }
 
 // The point x is at `time` or earlier.
+#[tactic(auto, unfolding(spec_plain::specs::Plain::not_after))]
 pub fn not_after(x: u32, time: u32) -> Rule
     ensures { result ≡ not_after x time }
 {
@@ -97,13 +108,14 @@ pub fn not_after(x: u32, time: u32) -> Rule
 }
 
 // The rule of a due time, if there is one: the job's last point is no later.
-pub fn due_rule(due: u32, last: u32) -> Maybe
-    ensures { result ≡ maybe_from (due_rules due last) }
+#[tactic(auto, unfolding(spec_plain::specs::Plain::due_rules))]
+pub fn due_rule(due: u32, last: u32) -> Option<Rule>
+    ensures { option_to_list result ≡ due_rules due last }
 {
     if due == 0 {
-        return no_rule();
+        return None;
     }
-    one_rule(not_after(last, due))
+    Some(not_after(last, due))
 }
 
 // How long after its point a use ends.
@@ -122,6 +134,7 @@ pub fn tray_gap(s: Settings) -> u32
 }
 
 // The use a ends no later than the use b starts.
+#[tactic(auto, unfolding(spec_plain::specs::Plain::in_order))]
 pub fn in_order(s: Settings, a: Use, b: Use) -> Rule
     requires { Short a }
     ensures { result ≡ in_order s a b }
@@ -135,6 +148,7 @@ pub fn in_order(s: Settings, a: Use, b: Use) -> Rule
 }
 
 // The rules (c) of a step that runs from the point x: it lasts at least its shortest duration ..
+#[tactic(auto, unfolding(spec_plain::specs::Plain::durations))]
 fn least_rule(x: u32, step: Step) -> Rule
     requires { x ≤ most_points + most_steps }
     ensures { result ≡ get_or (durations x (step ∷ [])) 0 no_rule }
@@ -148,6 +162,7 @@ fn least_rule(x: u32, step: Step) -> Rule
 }
 
 // .. and at most its longest.
+#[tactic(auto, unfolding(spec_plain::specs::Plain::durations))]
 fn most_rule(x: u32, step: Step) -> Rule
     requires { x ≤ most_points + most_steps }
     ensures { result ≡ get_or (durations x (step ∷ [])) 1 no_rule }
@@ -158,22 +173,4 @@ fn most_rule(x: u32, step: Step) -> Rule
         late: x,
         slack: step.longest,
     }
-}
-
-// The rules (c) of an offer's steps, of which the first runs from the point x.
-pub fn add_durations(old: Rules, x: u32, steps: Steps) -> Rules
-    requires { Room (2 * most_steps) old × (x ≤ most_points) × (steps.count ≤ most_steps) }
-    ensures { result ≡ rules_from (rules_of old ++ durations x (steps_of steps)) }
-{
-    let mut rules = old;
-    let mut at = x;
-    for k in 0..steps.count {
-        let step = steps.steps[k];
-        let n = rules.count;
-        rules.rules[n] = least_rule(at, step);
-        rules.rules[n + 1] = most_rule(at, step);
-        rules.count = n + 2;
-        at += 1;
-    }
-    rules
 }

@@ -1,19 +1,20 @@
 -- The uses of an offer's allocations put into lines that are in words, one after the other. Assumes nothing.
---   PutIn      how the words stand once k allocations are put in
+--   PutIn      how the words stand once the first k of the allocations are put in
 --   next_fits  what putting in the next one asks for;  next_in: once it is put in
 --   all_in     once all are put in
 use Prim.Native.Nat.{ℕ, ◌+◌, ◌≤◌, ◌<◌}
 use mathlib.Core.Path.{◌≡◌, sym, ◌∙◌, ap, subst}
 use mathlib.Core.List.{List, [], ◌∷◌}
-use lib.ListN.{length, get_or, set, drop}
+use lib.ListN.{length, get_or, set, drop, drop_of_length-le}
+use lib.Seq.{drop-cons}
+use native.Mathlib.Numerals.{add-one}
 use native.Mathlib.Omega.{arith}
 use Rattle.spec_plain.specs.Limits.{resources}
 use Rattle.spec_plain.specs.declared.Allocation.{Allocation}
 use Rattle.spec_plain.specs.declared.Use.{Use}
 use Rattle.spec_plain.specs.Plain.{inserted, used_from}
-use Rattle.part_allocations.specs.Allocations.{allocation_at, allocations_in}
 use Rattle.part_allocations.specs.ReadAllocations.{ReadAllocations}
-use Rattle.part_allocations.proofs.Read.{left_next, left_over, used_short}
+use Rattle.part_allocations.proofs.Read.{used_short}
 use Rattle.part_lines.specs.declared.Line.{Line}
 use Rattle.part_lines.specs.ArrayLists.{line_of, line_from, lines_of, lines_from}
 use Rattle.part_lines.specs.Asked.{Short, Ready, Readable}
@@ -27,32 +28,39 @@ use Rattle.part_linewords.specs.Beside.{Tidy, Beside}
 use Rattle.part_linewords.proofs.WordLaws.{lines_set}
 use Rattle.part_linewords.proofs.ReadyLaws.{words_tidy, words_size, stays_ready}
 
--- the words w are the words v with the first k of n allocations put in, where p0 of their job is point x
-pub record PutIn (x : ℕ) (allocations : List ℕ) (n : ℕ) (v w : List ℕ) (k : ℕ) : Type 0 where
+-- the words w are the words v with the first k of the allocations put in, where p0 of their job is point x
+pub record PutIn (x : ℕ) (allocations : List Allocation) (v w : List ℕ) (k : ℕ) : Type 0 where
   pub ready : Ready (lines_read (word_in w))
   -- those that are left fit
-  pub fits : AllFit x (lines_in w) (drop k (allocations_in allocations n))
+  pub fits : AllFit x (lines_in w) (drop k allocations)
   -- and with them put in too, the lines are those with all of them put in
-  pub whole : all_with x (lines_in w) (drop k (allocations_in allocations n)) ≡ all_with x (lines_in v) (allocations_in allocations n)
+  pub whole : all_with x (lines_in w) (drop k allocations) ≡ all_with x (lines_in v) allocations
   -- the words before the lines and behind them are what they were
   pub below : (i : ℕ) → i < lines_at → word_in w i ≡ word_in v i
   pub behind : (i : ℕ) → cells_at ≤ i → word_in w i ≡ word_in v i
   pub size : length w ≡ length v
 
 module _
-    {x : ℕ} {allocations : List ℕ} {n : ℕ} {v w : List ℕ} {k : ℕ} (s : PutIn x allocations n v w k) (more : k < n) (read : ReadAllocations allocations n)
-    (p : Allocation)
-    (is : p ≡ allocation_at allocations k) where
-  left : drop k (allocations_in allocations n) ≡ p ∷ drop (k + 1) (allocations_in allocations n)
-  left = left_next allocations n k more ∙ ap (λ (q : Allocation). q ∷ drop (k + 1) (allocations_in allocations n)) (sym is)
+    {x : ℕ} {allocations : List Allocation} {v w : List ℕ} {k : ℕ} (s : PutIn x allocations v w k) (more : k < length allocations)
+    (read : ReadAllocations allocations)
+    (z : Allocation) where
+  -- the next of them; z is what past the end would be read
+  abbrev p : Allocation
+  p = get_or allocations k z
+
+  left : drop k allocations ≡ p ∷ drop (k + 1) allocations
+  left = drop-cons allocations k z more ∙ ap (λ (i : ℕ). p ∷ drop i allocations) (sym (add-one k))
+
+  in_range : Readable p
+  in_range = read.each k more z
 
   there : p.resource < resources
-  there = (subst Readable (sym is) (read.each k more)).resource
+  there = in_range.resource
 
   fits_now :
       (p.place ≤ length (get_or (lines_in w) p.resource []))
       × (length (get_or (lines_in w) p.resource []) < 32)
-      × AllFit x (lines_with x (lines_in w) p) (drop (k + 1) (allocations_in allocations n))
+      × AllFit x (lines_with x (lines_in w) p) (drop (k + 1) allocations)
   unfolding AllFit
   fits_now = subst (AllFit x (lines_in w)) left s.fits
 
@@ -66,8 +74,8 @@ module _
       ap length (line_held (word_in w) p.resource there) ∙ words_size (word_in w) s.ready p.resource there in
       (omega (arith, size, fits_now.0), omega (arith, size, fits_now.1), words_tidy (word_in w) s.ready p.resource there)
 
-  pub next_fits : (at : ℕ) → at ≡ line_start p.resource → Fits at
-  next_fits at start = subst Fits (sym start) fits_line
+  pub next_fits : (at : ℕ) → at ≡ line_start p.resource → Fits at × (p.resource < resources)
+  next_fits at start = (subst Fits (sym start) fits_line, there)
 
   module _ (u : Use) (used : u ≡ used_from x p) (y : List ℕ) (same : length y ≡ length w) (at : ℕ) (start : at ≡ line_start p.resource)
       (line-now : line_read (word_in y) at ≡ line_from (inserted p.place u (line_of (line_read (word_in w) at))))
@@ -80,7 +88,7 @@ module _
     beside = subst (λ (i : ℕ). Beside i (word_in w) (word_in y)) start beside-now
 
     short : Short u
-    short = subst Short (sym used) (used_short x p (subst Readable (sym is) (read.each k more)))
+    short = subst Short (sym used) (used_short x p in_range)
 
     -- the line with the use, as one of the lines that are held
     set_line : (lines_in y ≡ lines_with x (lines_in w) p) × Ready (lines_read (word_in y))
@@ -92,10 +100,10 @@ module _
         (line ∙ ap (λ (l : List Use). line_from (inserted p.place u l)) (sym (line_held (word_in w) r there))) in
         (ap lines_of e ∙ stays.0 ∙ ap (λ (a : Use). set (lines_in w) r (inserted p.place a (get_or (lines_in w) r []))) used, subst Ready (sym e) stays.1)
 
-    pub next_in : PutIn x allocations n v y (k + 1)
+    pub next_in : PutIn x allocations v y (k + 1)
     unfolding all_with
     next_in =
-        let rest = drop (k + 1) (allocations_in allocations n) in
+        let rest = drop (k + 1) allocations in
         record {
           ready = set_line.1;
           fits = subst (λ (ls : List (List Use)). AllFit x ls rest) (sym set_line.0) fits_now.2;
@@ -106,10 +114,10 @@ module _
         }
 
 pub all_in :
-    {x : ℕ} {allocations : List ℕ} {n : ℕ} {v w : List ℕ} {k : ℕ} → PutIn x allocations n v w k → n ≤ k → cells_at ≤ length v
-    → w ≡ overwritten v lines_at (lines_words (lines_from (all_with x (lines_in v) (allocations_in allocations n))))
+    {x : ℕ} {allocations : List Allocation} {v w : List ℕ} {k : ℕ} → PutIn x allocations v w k → length allocations ≤ k → cells_at ≤ length v
+    → w ≡ overwritten v lines_at (lines_words (lines_from (all_with x (lines_in v) allocations)))
 unfolding all_with
-all_in {x = x} {allocations = allocations} {n = n} {v = v} {w = w} {k = k} s over room =
-    let held : lines_in w ≡ all_with x (lines_in v) (allocations_in allocations n) = sym (ap (all_with x (lines_in w)) (left_over allocations n k over)) ∙ s.whole in
+all_in {x = x} {allocations = allocations} {v = v} {w = w} {k = k} s over room =
+    let held : lines_in w ≡ all_with x (lines_in v) allocations = sym (ap (all_with x (lines_in w)) (drop_of_length-le allocations over)) ∙ s.whole in
     lines_put v w room s.size s.below s.behind
     ∙ ap (λ (ls : List Line). overwritten v lines_at (lines_words ls)) (s.ready.tidy ∙ ap lines_from held)

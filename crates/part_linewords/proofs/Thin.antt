@@ -1,11 +1,11 @@
 -- Laws of uses that are moved to the front where they lie.
 --   left        what stays of the first k uses
 --   thin_none   the loop's start;  thin_size: how many stay
---   thin_more   its turn: use k is read, as it was at first, and what stays of it written behind what stays of those before it
+--   thin_less, thin_more   its turn: use k is read, as it was at first; it leaves, or what stays of it is written behind what stays of those before it
 --   stay_put    a line whose uses were moved to the front, whose count was stored and whose other places were cleared
 use Prim.Native.Nat.{ℕ, ◌+◌, ◌<◌, ◌≤◌}
 use mathlib.Core.Path.{◌≡◌, refl, sym, ◌∙◌, ap, subst}
-use mathlib.Core.List.{List, [], ◌∷◌, ◌++◌}
+use mathlib.Core.List.{List, [], ◌∷◌, ◌++◌, append-nil}
 use lib.ListN.{length, get_or, set, take, length-set, length-take, length-append, get_or-append}
 use lib.Seq.{take-suc, get_or-set_same, get_or-set_other}
 use native.Mathlib.Decide.{dec_lt}
@@ -53,58 +53,61 @@ module _ (f m : ℕ) (w₀ : List ℕ) (at : ℕ) where
       ∙ ap (λ (u : Use). staying f m (take k us ++ (u ∷ []))) (build_at (use_at (word_in w₀) at) most_uses k no_use h)
       ∙ staying_append f m (take k us) (use_at (word_in w₀) at k ∷ [])
 
-  -- the words x are w with the use v in place n
-  module _ (w x : List ℕ) (n : ℕ) (v : Use) (room : use_start at n + use_size ≤ length w) (is : x ≡ overwritten w (use_start at n) (use_words v)) where
-    word_below : (k : ℕ) → k < use_start at n → word_in x k ≡ word_in w k
-    word_below k h = ap (λ (l : List ℕ). get_or l k 0) is ∙ overwritten_below w (use_start at n) (use_words v) k h
+  -- the use that is read is the one that came first
+  module _ (w : List ℕ) (k : ℕ) (h : k < 32) (t : Thinned w₀ w at k (left k)) where
+    left_with : (u : Use) → u ≡ use_read (word_in w) (use_start at k) → left (k + 1) ≡ left k ++ staying f m (u ∷ [])
+    left_with u e =
+        let read : u ≡ use_at (word_in w₀) at k =
+        e ∙ use_by (word_in w) (word_in w₀) (use_start at k) (use_start at k) (λ i l. t.behind (use_start at k + i) (omega arith)) in
+        left_more k h ∙ ap (λ (a : Use). left k ++ staying f m (a ∷ [])) (sym read)
 
-    word_from : (k : ℕ) → use_start at n + use_size ≤ k → word_in x k ≡ word_in w k
-    word_from k h = ap (λ (l : List ℕ). get_or l k 0) is ∙ overwritten_from w (use_start at n) (use_words v) k h
+    -- it leaves: the words are as they were
+    pub thin_less : (u : Use) → u ≡ use_read (word_in w) (use_start at k) → [] ≡ staying f m (u ∷ []) → (left k ≡ left (k + 1)) × Thinned w₀ w at (k + 1) (left (k + 1))
+    thin_less u e none =
+        let same : left k ≡ left (k + 1) = sym (append-nil (left k)) ∙ ap (λ (o : List Use). left k ++ o) none ∙ sym (left_with u e) in (
+          same,
+          subst (Thinned w₀ w at (k + 1)) same (record { uses = t.uses; before = t.before; behind = λ i l. t.behind i (omega arith) }),
+        )
 
-    word_at : (k i : ℕ) → k ≡ use_start at n + i → i < use_size → word_in x k ≡ get_or (use_words v) i 0
-    word_at k i e h = ap (λ (l : List ℕ). get_or l k 0) is ∙ overwritten_at w (use_start at n) (use_words v) k i e h room
+    -- what stays of it, v, is written behind what stays of those before it: the words are then x
+    module _ (x : List ℕ) (n : ℕ) (v : Use) (room : line_end at ≤ length w) (size : n ≡ length (left k)) (is : x ≡ overwritten w (use_start at n) (use_words v)) where
+      few : n ≤ k
+      few = omega (arith, left_few k)
 
-    use_below : (i : ℕ) → i < n → use_at (word_in x) at i ≡ use_at (word_in w) at i
-    use_below i h =
-        use_by (word_in x) (word_in w) (use_start at i) (use_start at i) (λ k l. word_below (use_start at i + k) (omega arith))
+      word_below : (i : ℕ) → i < use_start at n → word_in x i ≡ word_in w i
+      word_below i l = ap (λ (q : List ℕ). get_or q i 0) is ∙ overwritten_below w (use_start at n) (use_words v) i l
 
-    use_at_lem : use_at (word_in x) at n ≡ v
-    use_at_lem =
-        use_written (word_in x) (use_start at n) v (λ i h. word_at (use_start at n + i) i refl h)
+      word_from : (i : ℕ) → use_start at n + use_size ≤ i → word_in x i ≡ word_in w i
+      word_from i l = ap (λ (q : List ℕ). get_or q i 0) is ∙ overwritten_from w (use_start at n) (use_words v) i l
 
-    -- the uses us stood there, and behind them comes what stays of one use: o
-    thin_next :
-        (k : ℕ) (us o : List Use) → n ≤ k → n ≡ length us → length o ≤ 1 → v ≡ get_or o 0 no_use → Thinned w₀ w at k us
-        → Thinned w₀ x at (k + 1) (us ++ o)
-    thin_next k us o le size one ev t =
-        record {
-          uses = λ i h. go i (omega (arith, length-append us o)) (dec_lt i n);
-          before = λ i h. word_below i (omega arith) ∙ t.before i h;
-          behind = λ i h. word_from i (omega arith) ∙ t.behind i (omega arith);
-        }
-      where
-        go : (i : ℕ) → i < length us + length o → Dec (i < n) → use_at (word_in x) at i ≡ get_or (us ++ o) i no_use
-        go i h (yes lt) = use_below i lt ∙ t.uses i (omega arith) ∙ sym (get_or-append us o no_use i (omega arith))
-        go i h (no ge) =
-            let e : i ≡ n = omega arith in
-            ap (use_at (word_in x) at) e ∙ use_at_lem ∙ ev ∙ sym (past us o i 0 no_use (omega arith))
+      word_at : (i j : ℕ) → i ≡ use_start at n + j → j < use_size → word_in x i ≡ get_or (use_words v) j 0
+      word_at i j e l = ap (λ (q : List ℕ). get_or q i 0) is ∙ overwritten_at w (use_start at n) (use_words v) i j e l (omega (arith, few))
 
-  pub thin_more :
-      (w x : List ℕ) (n k : ℕ) (u v : Use) (c : ℕ) → line_end at ≤ length w → k < 32 → n ≡ length (left k) → Thinned w₀ w at k (left k)
-      → u ≡ use_read (word_in w) (use_start at k) → v ≡ get_or (staying f m (u ∷ [])) 0 no_use → c ≡ length (staying f m (u ∷ []))
-      → x ≡ overwritten w (use_start at n) (use_words v) → (n + c ≡ length (left (k + 1))) × Thinned w₀ x at (k + 1) (left (k + 1))
-  thin_more w x n k u v c room h size t eu ev ec is =
-      let o : List Use = staying f m (u ∷ []) in
-      let read : u ≡ use_at (word_in w₀) at k =
-      eu
-      ∙ use_by (word_in w) (word_in w₀) (use_start at k) (use_start at k) (λ i l. t.behind (use_start at k + i) (omega arith)) in
-      let all : left k ++ o ≡ left (k + 1) = sym (left_more k h ∙ ap (λ (a : Use). left k ++ staying f m (a ∷ [])) (sym read)) in
-      let le : n ≤ k = omega (arith, left_few k) in
-      let total : length (left k ++ o) ≡ length (left k) + length o = length-append (left k) o in
-      let sum : n + c ≡ length (left k ++ o) = omega (arith, total) in (
-        sum ∙ ap length all,
-        subst (Thinned w₀ x at (k + 1)) all (thin_next w x n v (omega arith) is k (left k) o le size (few_stay f m (u ∷ [])) ev t),
-      )
+      use_below : (i : ℕ) → i < n → use_at (word_in x) at i ≡ use_at (word_in w) at i
+      use_below i l = use_by (word_in x) (word_in w) (use_start at i) (use_start at i) (λ j r. word_below (use_start at i + j) (omega arith))
+
+      use_there : use_at (word_in x) at n ≡ v
+      use_there = use_written (word_in x) (use_start at n) v (λ i l. word_at (use_start at n + i) i refl l)
+
+      next : Thinned w₀ x at (k + 1) (left k ++ (v ∷ []))
+      next =
+          record {
+            uses = λ i l. go i (omega (arith, length-append (left k) (v ∷ []))) (dec_lt i n);
+            before = λ i l. word_below i (omega arith) ∙ t.before i l;
+            behind = λ i l. word_from i (omega (arith, few)) ∙ t.behind i (omega arith);
+          }
+        where
+          go : (i : ℕ) → i < length (left k) + 1 → Dec (i < n) → use_at (word_in x) at i ≡ get_or (left k ++ (v ∷ [])) i no_use
+          go i l (yes lt) = use_below i lt ∙ t.uses i (omega arith) ∙ sym (get_or-append (left k) (v ∷ []) no_use i (omega arith))
+          go i l (no ge) =
+              let e : i ≡ n = omega arith in
+              ap (use_at (word_in x) at) e ∙ use_there ∙ sym (past (left k) (v ∷ []) i 0 no_use (omega arith))
+
+      pub thin_more : (u : Use) → u ≡ use_read (word_in w) (use_start at k) → (v ∷ []) ≡ staying f m (u ∷ []) → (n + 1 ≡ length (left (k + 1))) × Thinned w₀ x at (k + 1) (left (k + 1))
+      thin_more u e one =
+          let all : left k ++ (v ∷ []) ≡ left (k + 1) = ap (λ (o : List Use). left k ++ o) one ∙ sym (left_with u e) in
+          let longer : n + 1 ≡ length (left k ++ (v ∷ [])) = omega (arith, length-append (left k) (v ∷ [])) in
+          (longer ∙ ap length all, subst (Thinned w₀ x at (k + 1)) all next)
 
 pub stay_put :
     (f m : ℕ) (w y x : List ℕ) (at n : ℕ) → line_end at ≤ length w → word_in w at ≤ most_uses → length y ≡ length w

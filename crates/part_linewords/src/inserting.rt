@@ -2,8 +2,6 @@
 ghost use Rattle.std.specs.Prelude.{◌≡◌, ◌≤◌, ◌<◌, length};
 ghost use Rattle.spec_plain.specs.Limits.{most_points, most_uses};
 ghost use Rattle.spec_plain.specs.Plain.{inserted};
-ghost use Rattle.part_allocations.specs.Allocations.{allocations_in};
-ghost use Rattle.part_allocations.specs.ReadAllocations.{ReadAllocations};
 ghost use Rattle.part_lines.specs.ArrayLists.{line_of, line_from, lines_from};
 ghost use Rattle.part_lines.specs.Asked.{Ready};
 ghost use Rattle.part_lines.specs.Placing.{all_with, AllFit};
@@ -12,7 +10,7 @@ ghost use Rattle.part_boardwords.specs.Words.{word_in, line_read, lines_read, li
 ghost use Rattle.part_boardwords.specs.Codec.{lines_words, overwritten};
 ghost use Rattle.part_linewords.specs.Beside.{Tidy, Beside};
 
-use part_allocations::{read_allocation, used_from};
+use part_allocations::{Allocations, used_from};
 use part_boardwords::{line_start, move_uses_up, write_use};
 use spec_plain::Use;
 
@@ -30,19 +28,18 @@ fn insert(w: &mut [u32], at: usize, place: usize, u: Use)
 }
 
 // The uses of an offer's allocations put into their lines, which have 0 in every place not in use. It asks that none of them is stopped by 15 or 16.
-pub fn insert_all(w: &mut [u32], first: u32, allocations: &[u32], many: usize)
-    requires cells_at_in_bounds { (cells_at ≤ length w.old) × Ready (lines_read (word_in w.old)) × ReadAllocations allocations.now many × (first ≤ most_points) }
-    requires all_fit { AllFit first (lines_in w.old) (allocations_in allocations.now many) }
+pub fn insert_all(w: &mut [u32], first: u32, allocations: Allocations)
+    requires cells_at_in_bounds { (cells_at ≤ length w.old) × Ready (lines_read (word_in w.old)) × (first ≤ most_points) }
+    requires all_fit { AllFit first (lines_in w.old) allocations.list.now }
     ensures { w.new ≡ overwritten w.old lines_at (lines_words (lines_from
-        (all_with first (lines_in w.old) (allocations_in allocations.now many)))) }
+        (all_with first (lines_in w.old) allocations.entry.list.now))) }
 {
-    for k in 0..many {
-        let allocation = read_allocation(allocations, k);
+    for allocation in allocations.list {
         insert(
             w,
             line_start(allocation.resource as usize),
             allocation.place as usize,
-            used_from(first, allocation),
+            used_from(first, *allocation),
         );
     }
 }

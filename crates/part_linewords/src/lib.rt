@@ -1,4 +1,4 @@
-// What writes lines where they lie, in the words of a board (boardwords, specs/Layout): they are tidied and thinned out, and an accepted offer's uses
+// What writes lines where they lie, in the words of a board (part_boardwords, specs/Layout): they are tidied and thinned out, and an accepted offer's uses
 // are put into them.
 // It may use spec_plain, base_lists, part_lines, part_allocations and part_boardwords, and rules on nothing.
 #![tactic(auto)]

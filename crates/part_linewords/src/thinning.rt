@@ -9,11 +9,11 @@ ghost use Rattle.part_boardwords.specs.Codec.{line_words, lines_words, overwritt
 ghost use Rattle.part_linewords.specs.Thinned.{Thinned};
 
 use part_boardwords::{clear_uses, line_start, use_at, write_use};
-use part_lines::{stay_count, stay_use};
+use part_lines::staying;
 use spec_plain::limits;
 
-// What stays of the first `count` uses of the line at word `at`, moved to the front, and how many. Each use is written behind those that stay,
-// so none is written over before it is read; one that leaves writes 0 there, and the next is written over it.
+// What stays of the first `count` uses of the line at word `at`, moved to the front, and how many. Each use that stays is written behind those
+// that do, so none is written over before it is read.
 fn stay_uses(w: &mut [u32], at: usize, count: usize, f: u32, m: u32) -> usize
     requires { (line_end at ≤ length w.old) × (count ≤ most_uses) × (f + m ≤ side) }
     ensures size { result ≡ length (staying f m (take count (uses_read (word_in w.old) at))) }
@@ -22,9 +22,10 @@ fn stay_uses(w: &mut [u32], at: usize, count: usize, f: u32, m: u32) -> usize
 {
     let mut next = 0;
     for k in 0..count {
-        let u = use_at(w, at, k);
-        write_use(w, at, next, stay_use(u, f, m));
-        next += stay_count(u, f, m);
+        if let Some(u) = staying(use_at(w, at, k), f, m) {
+            write_use(w, at, next, u);
+            next += 1;
+        }
     }
     next
 }

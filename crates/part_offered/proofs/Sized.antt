@@ -1,5 +1,6 @@
 -- The numbers of an offer that was read from a good plant file are in range. Assumes nothing.
 --   step_sized, allocation_sized   a step, an allocation;  offer_sized: the offer;  checked_sized: one that passes a plan's tests
+--   offer_read                     its allocations were read
 use Prim.Native.Nat.{ℕ, zero, suc, ◌+◌, ◌*◌, ◌≤◌, ◌<◌}
 use native.Mathlib.Omega.{arith}
 use mathlib.Core.Path.{◌≡◌}
@@ -15,10 +16,14 @@ use Rattle.read_plant.proofs.Ranges.{duration_range, allocation_range}
 use Rattle.read_offer.specs.Offer.{due_of, step_count, step_start, offer_ruling, fact_check}
 use Rattle.read_offer.proofs.Steps.{read_of}
 use Rattle.base_lists.specs.All.{All}
-use Rattle.base_lists.proofs.All.{all_append}
+use Rattle.base_lists.proofs.All.{all_append, all_map}
+use Rattle.spec_plain.specs.declared.Allocation.{Allocation}
 use Rattle.spec_plain.specs.Plain.{State}
 use Rattle.spec_rulebook.specs.Reading.{record_of, step_of, allocation_of, steps_from, allocations_of_step, allocations_from, offer_of, plan_check}
 use Rattle.spec_rulebook.proofs.Reading.{checked}
+use Rattle.part_lines.specs.Asked.{Readable}
+use Rattle.part_allocations.specs.ReadAllocations.{ReadAllocations}
+use Rattle.part_allocations.proofs.Read.{read_all}
 use Rattle.part_offered.specs.Sized.{SizedStep, SizedAllocation, SizedOffer}
 use Rattle.part_offered.proofs.StepLaws.{length_steps, length_step_allocations}
 
@@ -89,6 +94,13 @@ module _ (p o : List ℕ) (ok : plant_ruling p ≡ Accepted) (read : offer_rulin
         allocations = rw size allocations.0;
         count = omega (arith, allocations.1, r.few);
       }
+
+  pub offer_read : (ps : List Allocation) → ps ≡ (offer_of p o).allocations → ReadAllocations ps
+  offer_read ps e =
+      let sized = offer_sized (due_of o) (omega arith) in
+      rw e
+      (read_all (offer_of p o).allocations sized.count
+      (all_map (SizedAllocation (length (offer_of p o).steps)) Readable (λ a s. s.readable) (offer_of p o).allocations sized.allocations))
 
 -- a plan's tests pass 1 to 4, 7 to 9 and 23 on their way
 pub checked_sized : (s : State) (p o : List ℕ) → plan_check s p o ≡ Accepted → SizedOffer s.settings.horizon (offer_of p o)

@@ -1,2 +1,2 @@
-pub mod StepArray
+pub mod Offered
 pub mod Sized

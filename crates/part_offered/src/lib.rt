@@ -1,133 +1,62 @@
 // The offer as the plain machine takes it: the durations of its steps, and its allocations with their places, copied out of the bytes of
 // a good plant file and a good offer. It rules on nothing. It may use the readers (base_words, base_rulings, read_plant, read_offer), spec_plain,
-// the rule book's definition of what an offer says, the array of steps (part_lines), allocations as words (part_allocations) and base_lists.
+// the rule book's definition of what an offer says, an offer that is held (part_allocations), part_lines and base_lists.
 #![tactic(auto)]
 
-ghost use Rattle.std.specs.Prelude.{◌≡◌, ◌++◌, ◌+◌, ◌*◌, ◌≤◌, length};
-ghost use Rattle.base_rulings.specs.declared.Ruling.TheVariants.{Accepted};
-ghost use Rattle.read_plant.specs.Plant.{plant_ruling, trailer_of, shortest, longest};
-ghost use Rattle.read_offer.specs.Offer.{offer_ruling, step_start};
-ghost use Rattle.spec_rulebook.specs.Reading.{record_of, allocation_of, allocations_of_step, offer_of};
-ghost use Rattle.part_lines.specs.ArrayLists.{no_step};
-ghost use Rattle.part_allocations.specs.Allocations.{allocations_in, allocation_size, allocations_size};
-ghost use Rattle.part_offered.specs.StepArray.{steps_held};
+mod step; // a step, with the places of its bytes
 
-use base_words::{byte_at, offset_at, u32_at};
-use part_allocations::push_allocation;
-use part_lines::Steps;
-use read_offer::HEADER_SIZE;
-use read_plant::{Trailer, allocation_count, start_of};
+ghost use Rattle.std.specs.Prelude.{◌≡◌, ◌++◌, ◌+◌, ◌≤◌, take, length};
+ghost use Rattle.spec_plain.specs.Limits.{most_allocations};
+ghost use Rattle.read_plant.specs.Plant.{allocation_count};
+ghost use Rattle.spec_rulebook.specs.Reading.{allocations_of_step, offer_of};
+
+use part_allocations::Allocations;
+use read_offer::{HEADER_SIZE, Offer};
 use spec_plain::{Allocation, Step, limits};
+use step::OfferedStep;
 
-fn no_step() -> Step
-    ensures { result ≡ no_step }
+// The steps of the offer, put into an array that holds as many as an offer may have.
+pub fn read_durations<'a>(offer: Offer, held: &'a mut [Step; limits::MOST_STEPS]) -> &'a [Step]
+    ensures { result.now ≡ (offer_of offer.entry.plant.bytes.now offer.entry.bytes.now).steps }
 {
-    Step {
-        shortest: 0,
-        longest: 0,
-    }
-}
-
-// The durations in the record that starts at `start`.
-fn step_at(plant: &[u8], start: usize) -> Step
-    requires { start + 28 ≤ length plant.now }
-    ensures { (result.shortest ≡ shortest plant.now start) × (result.longest ≡ longest plant.now start) }
-{
-    Step {
-        shortest: u32_at(plant, start + 16),
-        longest: u32_at(plant, start + 20),
-    }
-}
-
-// The steps of the offer.
-pub fn read_durations(plant: &[u8], t: Trailer, offer: &[u8]) -> Steps
-    requires { (plant_ruling plant.now ≡ Accepted) × (t ≡ trailer_of plant.now) × (offer_ruling plant.now offer.now ≡ Accepted) }
-    ensures { result ≡ steps_held (offer_of plant.now offer.now).steps }
-{
-    let none = no_step();
-    let count = offset_at(offer, 20);
-    let mut held = Steps {
-        count,
-        steps: [none; limits::MOST_STEPS],
-    };
+    let count = offer.step_count();
     let mut at = HEADER_SIZE;
-    let mut k = 0;
-    while k < count {
-        let start = start_of(plant, t, u32_at(offer, at));
-        held.steps[k] = step_at(plant, start);
-        at = at + 4 + 4 * byte_at(plant, start + 24);
-        k += 1;
+    for (k, slot) in held[..count].iter_mut().enumerate() {
+        let step = OfferedStep::new(offer, k as u32, at);
+        *slot = step.durations();
+        at = step.end();
     }
-    held
+    &held[..count]
 }
 
-// Allocation j of a step, whose action's record starts at `start` and whose bytes in the offer start at `at`.
-fn allocation_at(
-    plant: &[u8],
-    offer: &[u8],
-    step: u32,
-    start: usize,
-    at: usize,
-    j: usize,
-) -> Allocation
-    requires start_value { (start ≡ record_of plant.now offer.now step) × (at ≡ step_start plant.now offer.now step) }
-    requires j_in_bounds { (start + 28 + 12 * j + 12 ≤ length plant.now) × (at + 4 + 4 * j + 4 ≤ length offer.now) }
-    ensures { result ≡ allocation_of plant.now offer.now step j }
+// The allocations of a step, put behind the first `many`; how many they are.
+fn push_step(step: OfferedStep, held: &mut [Allocation], many: usize) -> usize
+    requires { many + allocation_count step.offer.plant.bytes.now step.start ≤ length held.old }
+    ensures number { result ≡ allocation_count step.entry.offer.plant.bytes.now step.entry.start }
+    ensures behind { take (many + result) held.new ≡
+        take many held.old ++ allocations_of_step step.entry.offer.plant.bytes.now step.entry.offer.bytes.now step.entry.number 0 result }
 {
-    let from = start + 28 + 12 * j;
-    Allocation {
-        resource: u32_at(plant, from),
-        place: u32_at(offer, at + 4 + 4 * j),
-        step,
-        offset: u32_at(plant, from + 4),
-        length: u32_at(plant, from + 8),
+    let n = step.allocation_count();
+    for (j, slot) in held[many..many + n].iter_mut().enumerate() {
+        *slot = step.allocation(j);
     }
+    n
 }
 
-// The n allocations of step k, put behind the first `many`. The action's record starts at `start`, the step's bytes in the offer at `at`.
-fn push_step(
-    plant: &[u8],
-    offer: &[u8],
-    k: u32,
-    start: usize,
-    at: usize,
-    n: usize,
-    allocations: &mut [u32],
-    many: usize,
-)
-    requires start_value { (start ≡ record_of plant.now offer.now k) × (at ≡ step_start plant.now offer.now k) }
-    requires n_in_bounds { (start + 28 + 12 * n ≤ length plant.now) × (at + 4 + 4 * n ≤ length offer.now)
-        × (allocation_size * (many + n) ≤ length allocations.old) }
-    ensures { allocations_in allocations.new (many + n) ≡
-        allocations_in allocations.old many ++ allocations_of_step plant.now offer.now k 0 n }
+// The allocations of the offer, step by step, put into a slice that holds as many as an offer may have.
+pub fn read_allocations<'a>(offer: Offer, held: &'a mut [Allocation]) -> Allocations<'a>
+    requires { most_allocations ≤ length held.old }
+    ensures { result.list.now ≡ (offer_of offer.entry.plant.bytes.now offer.entry.bytes.now).allocations }
 {
-    for j in 0..n {
-        push_allocation(
-            allocations,
-            many + j,
-            allocation_at(plant, offer, k, start, at, j),
-        );
-    }
-}
-
-// The allocations of the offer, step by step, into words that hold as many as an offer may have.
-pub fn read_allocations(plant: &[u8], t: Trailer, offer: &[u8], allocations: &mut [u32]) -> usize
-    requires { (plant_ruling plant.now ≡ Accepted) × (t ≡ trailer_of plant.now)
-        × (offer_ruling plant.now offer.now ≡ Accepted) × (allocations_size ≤ length allocations.old) }
-    ensures { allocations_in allocations.new result ≡ (offer_of plant.now offer.now).allocations }
-{
-    let count = u32_at(offer, 20);
     let mut many = 0;
     let mut at = HEADER_SIZE;
-    let mut k = 0;
-    while k < count {
-        let action = u32_at(offer, at);
-        let start = start_of(plant, t, action);
-        let n = allocation_count(plant, t, action);
-        push_step(plant, offer, k, start, at, n, allocations, many);
+    for k in 0..offer.step_count() {
+        let step = OfferedStep::new(offer, k as u32, at);
+        let n = push_step(step, held, many);
         many += n;
-        at = at + 4 + 4 * n;
-        k += 1;
+        at = step.end();
     }
-    many
+    Allocations {
+        list: &held[..many],
+    }
 }

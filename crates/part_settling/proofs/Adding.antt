@@ -1,21 +1,26 @@
 -- Laws of rules added one after the other to a closed table. Assumes nothing.
 --   Adding l n rs t left   the table t comes of l by adding rules of rs, and `left` are left to add
+--   next_left      the first of those left
 --   begins, stops, goes_on, ends   one law for each place of the loop
 --   all_added, not_added   what the answer of the code says: all rules were added, or not, whatever cells stand there then
---   live_put       the live rows put over those that adding changed, and over those before it
+--   put_back       the live rows of the table put over those that adding changed: it is as it came
 --   usable_wide    a usable rule is usable among more points;  agree, looked_up, usable_here: what the code of one rule asks
-use Prim.Native.Nat.{ℕ, ◌+◌, ◌*◌, ◌≤◌}
+use Prim.Native.Nat.{ℕ, ◌+◌, ◌*◌, ◌≤◌, ◌<◌}
+use native.Mathlib.Decide.{dec_lt}
+use lib.Seq.{ext_get_or, drop-cons}
+use native.Mathlib.Numerals.{add-one}
+use Rattle.base_lists.proofs.Build.{build_at}
 use native.Mathlib.Omega.{arith}
 use mathlib.Core.Path.{◌≡◌, refl, sym, subst, ap, ◌∙◌}
 use mathlib.Core.Bool.{Bool, true, false}
 use mathlib.Core.List.{List, [], ◌∷◌}
 use mathlib.Core.Option.{Option}
-use lib.ListN.{length, get_or}
+use lib.ListN.{length, get_or, drop}
 use borrow.Author.Tests.{leb-true}
 use Rattle.spec_plain.specs.Limits.{side, cell_count}
 use Rattle.spec_plain.specs.declared.Rule.{Rule}
-use Rattle.base_lists.specs.Loops.{rewritten}
-use Rattle.base_lists.proofs.Rewritten.{rewritten_length, rewritten_in, rewritten_from, rewritten_is}
+use Rattle.base_lists.specs.Loops.{build, rewritten}
+use Rattle.base_lists.proofs.Rewritten.{rewritten_length, rewritten_in, rewritten_from}
 use Rattle.spec_stn.specs.Table.{bias, Closed, IsConsistent, is_consistent}
 use Rattle.part_gaps.specs.Cells.{cell, table_of, added, Usable}
 use Rattle.part_gaps.proofs.Added.{added_length, added_closed, added_past}
@@ -34,6 +39,10 @@ pub record Adding (l : List ℕ) (n : ℕ) (rs : List Rule) (t : List ℕ) (left
   pub same : added_all left n t ≡ added_all rs n l
   -- no row past the live ones has changed
   pub rest : (k : ℕ) → n * side ≤ k → get_or t k 0 ≡ get_or l k 0
+
+-- what is left starts with the element at k
+pub next_left : {A : Type 0} → (l : List A) (k : ℕ) (z : A) → k < length l → drop k l ≡ get_or l k z ∷ drop (k + 1) l
+next_left l k z h = drop-cons l k z h ∙ ap (λ (i : ℕ). get_or l k z ∷ drop i l) (sym (add-one k))
 
 pub begins : (l : List ℕ) (n : ℕ) (rs : List Rule) → length l ≡ cell_count → Closed n (table_of l) → AllUsable n rs → Adding l n rs l rs
 begins l n rs e c u = record { cells = e; closed = c; usable = u; same = refl; rest = λ k h. refl }
@@ -87,14 +96,25 @@ module _ (ok : Bool) (m : List ℕ) (o : Option (List ℕ)) (e : outcome ok m �
   unfolding outcome
   not_added f x = subst (λ (z : Bool). outcome z m ≡ o) f e
 
--- adding made g of l and changed only the first q cells: to put these into g is to put them into l
-pub live_put :
-    (f : ℕ → ℕ) (l g x : List ℕ) (q : ℕ) → length g ≡ length l → ((k : ℕ) → q ≤ k → get_or g k 0 ≡ get_or l k 0) → x ≡ rewritten f g 0 q
-    → x ≡ rewritten f l 0 q
-live_put f l g x q same rest out =
-    rewritten_is f l x 0 q (ap length out ∙ rewritten_length f g 0 q ∙ same)
-    (λ k lo hi h. at k ∙ rewritten_in f g 0 q k lo hi (omega arith)) (λ k h. absurd (omega arith))
-    (λ k h. at k ∙ rewritten_from f g 0 q k h ∙ rest k h)
+-- adding made g of l and changed only the first q cells: to put the first q cells of l into g is to make it l again
+pub put_back :
+    (l old g x : List ℕ) (n q : ℕ) → old ≡ build (λ k. get_or l k 0) n → q ≤ n → length g ≡ length l → ((k : ℕ) → q ≤ k → get_or g k 0 ≡ get_or l k 0)
+    → x ≡ rewritten (λ k. get_or old k 0) g 0 q → x ≡ l
+put_back l old g x n q copy few same rest out =
+    ext_get_or 0 x l (ap length out ∙ rewritten_length f g 0 q ∙ same) (λ k h. go k (omega (arith, same_x)) (dec_lt k q))
   where
+    f : ℕ → ℕ
+    f k = get_or old k 0
+
+    same_x : length x ≡ length g
+    same_x = ap length out ∙ rewritten_length f g 0 q
+
     at : (k : ℕ) → get_or x k 0 ≡ get_or (rewritten f g 0 q) k 0
     at k = ap (λ (w : List ℕ). get_or w k 0) out
+
+    kept : (k : ℕ) → k < q → f k ≡ get_or l k 0
+    kept k h = ap (λ (w : List ℕ). get_or w k 0) copy ∙ build_at (λ i. get_or l i 0) n k 0 (omega arith)
+
+    go : (k : ℕ) → k < length g → Dec (k < q) → get_or x k 0 ≡ get_or l k 0
+    go k h (yes lt) = at k ∙ rewritten_in f g 0 q k (omega arith) lt h ∙ kept k lt
+    go k h (no ge) = at k ∙ rewritten_from f g 0 q k (omega arith) ∙ rest k (omega arith)

@@ -117,18 +117,19 @@ module _ (n : ℕ) (few : n ≤ side) where
 
 -- ---- loops
 
-pub range_first : (x m : ℕ) → range (x + 0) (m - 0) ≡ range x m
-range_first x m = ap₂ range (omega arith) (omega arith)
+pub range_first : (x m : ℕ) → range x (x + m - x) ≡ range x m
+range_first x m = ap (range x) {x = x + m - x} {y = m} (omega arith)
 
-pub range_next : (x k m : ℕ) → k < m → range (x + k) (m - k) ≡ (x + k) ∷ range (x + (k + 1)) (m - (k + 1))
+-- the points from x on and before e
+pub range_next : (x e : ℕ) → x < e → range x (e - x) ≡ x ∷ range (x + 1) (e - (x + 1))
 unfolding range
-range_next x k m h =
-    ap (range (x + k)) (let e : m - k ≡ suc (m - (k + 1)) = omega arith in e)
-    ∙ ap (λ (y : ℕ). (x + k) ∷ range y (m - (k + 1))) (omega arith)
+range_next x e h =
+    ap (range x) (let d : e - x ≡ suc (e - (x + 1)) = omega arith in d)
+    ∙ ap (λ (y : ℕ). x ∷ range y (e - (x + 1))) {x = suc x} {y = x + 1} (omega arith)
 
-pub range_over : (x k m : ℕ) → m ≤ k → range (x + k) (m - k) ≡ []
+pub range_over : (x e : ℕ) → e ≤ x → range x (e - x) ≡ []
 unfolding range
-range_over x k m h = ap (range (x + k)) (let e : m - k ≡ 0 = omega arith in e)
+range_over x e h = ap (range x) (let d : e - x ≡ 0 = omega arith in d)
 
 pub unsent_first : (x n : ℕ) (js : List Job) → unsent_points x (n - 0) js ≡ unsent_points x n js
 unsent_first x n js = ap (λ (z : ℕ). unsent_points x z js) (omega arith)

@@ -1,21 +1,19 @@
--- Flags: what a loop keeps in a Bool, and what a row of early returns comes to.
---   flag_next, flag_end   a loop that goes down a list with `ok = ok & test`: its invariant is that the flag, and the test of what is left, are
+-- Flags: what a loop keeps in a Bool, and what a row of tests comes to.
+--   flag_next, flag_end   a loop that goes down a list with `ok &= test`: its invariant is that the flag, and the test of what is left, are
 --                         together the test of the whole list
---   left_next             what is left of a list starts with the element at k
---   all_next, all_end     the same where each element is tested alone
+--   first_apart           the flag of all places, split at the first
+--   all_each              a test of each element is the test of the whole list
 --   fails, passes         a test that is made of clauses, clause by clause: the first that fails is the answer
 --   holds, breaks         what `if !r` tells of the test that r is
---   cancel_test           how `cancel` tests a sum that it does not make
-use Prim.Native.Nat.{ℕ, ◌+◌, ◌-◌, ◌≤◌, ◌<◌}
-use mathlib.Core.Path.{◌≡◌, refl, sym, ◌∙◌}
+use Prim.Native.Nat.{ℕ, zero, suc, ◌+◌, ◌<◌}
+use mathlib.Core.Path.{◌≡◌, refl, sym, ◌∙◌, ap}
 use mathlib.Core.Bool.{Bool, true, false, not, ◌&&◌, and-true, and_assoc}
 use mathlib.Core.List.{List, [], ◌∷◌}
 use native.Mathlib.Omega.{arith}
 use native.Mathlib.Numerals.{add-one}
-use lib.ListN.{length, get_or, drop}
-use lib.Seq.{drop-cons}
-use lib.Dec.{eqb}
-use borrow.Author.Tests.{eqb-true, eqb-false, eq-eqb, ne_eqb, not-true, not-false}
+use lib.ListN.{length, get_or}
+use borrow.Author.Tests.{not-true, not-false}
+use Rattle.base_lists.specs.Loops.{all_below}
 use Rattle.part_sound.specs.Sound.{all_of}
 
 pub flag_next : (ok test rest : Bool) {whole : Bool} → (ok && (test && rest)) ≡ whole → (ok && test && rest) ≡ whole
@@ -24,17 +22,20 @@ flag_next ok test rest h = and_assoc ok test rest ∙ h
 pub flag_end : (ok : Bool) {whole : Bool} → (ok && true) ≡ whole → ok ≡ whole
 flag_end ok h = sym (and-true ok) ∙ h
 
-pub left_next : {A : Type 0} (l : List A) (k : ℕ) (z : A) → k < length l → drop k l ≡ get_or l k z ∷ drop (k + 1) l
-left_next l k z h = rw (add-one k) (drop-cons l k z h)
+pub first_apart : (f : ℕ → Bool) (n : ℕ) → all_below f (suc n) ≡ (f 0 && all_below (λ k. f (k + 1)) n)
+unfolding all_below
+first_apart f zero = sym (and-true (f 0))
+first_apart f (suc n) = rw (first_apart f n, add-one n) (and_assoc (f 0) (all_below (λ k. f (k + 1)) n) (f (suc n)))
 
-module _ {A : Type 0} (f : A → Bool) (js : List A) (k : ℕ) (ok : Bool) where
-  pub all_next :
-      (a : A) (test : Bool) → (ok && all_of f (drop k js)) ≡ all_of f js → drop k js ≡ a ∷ drop (k + 1) js → test ≡ f a
-      → (ok && test && all_of f (drop (k + 1) js)) ≡ all_of f js
-  all_next a test h e t = rw t (flag_next ok (f a) (all_of f (drop (k + 1) js)) (rw e at h))
-
-  pub all_end : (ok && all_of f (drop k js)) ≡ all_of f js → drop k js ≡ [] → ok ≡ all_of f js
-  all_end h e = flag_end ok (rw e at h)
+module _ {A : Type 0} (f : A → Bool) (d : A) where
+  pub all_each : (l : List A) (g : ℕ → A) (n : ℕ) → length l ≡ n → ((k : ℕ) → k < n → get_or l k d ≡ g k) → all_below (λ k. f (g k)) n ≡ all_of f l
+  unfolding all_below
+  all_each [] g n e is = rw (sym e) refl
+  all_each (a ∷ l) g n e is =
+      rw (sym e)
+      (first_apart (λ k. f (g k)) (length l)
+      ∙ rw (sym (is 0 (omega arith))) (ap (λ (b : Bool). f a && b)
+      (all_each l (λ k. g (k + 1)) (length l) refl (λ k h. ap (λ (i : ℕ). get_or (a ∷ l) i d) (sym (add-one k)) ∙ is (k + 1) (omega arith)))))
 
 pub fails : {a : Bool} (rest : Bool) → a ≡ false → false ≡ (a && rest)
 fails rest h = rw h
@@ -48,10 +49,3 @@ module _ {r test : Bool} (e : r ≡ test) where
 
   pub breaks : not r ≡ true → test ≡ false
   breaks h = sym e ∙ not-true r h
-
-pub cancel_test : (a b s : ℕ) → a ≤ s → eqb b (s - a) ≡ eqb (a + b) s
-cancel_test a b s h = go (eqb b (s - a)) refl
-  where
-    go : (t : Bool) → eqb b (s - a) ≡ t → eqb b (s - a) ≡ eqb (a + b) s
-    go true e = e ∙ sym (eq-eqb (a + b) s (omega (arith, eqb-true b (s - a) e)))
-    go false e = e ∙ sym (ne_eqb (a + b) s (λ same. eqb-false b (s - a) e (omega arith)))

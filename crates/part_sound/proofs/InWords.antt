@@ -1,5 +1,5 @@
 -- Lines and boards in words. Assumes nothing.
---   use_next, use_over   what is left of a line, after k of its uses;  lines_next: of the lines
+--   use_next, use_over   what is left of a line, after k of its uses
 --   framed_in            the frame of words with their table lent is the board of the words
 --   unmarked             a board with a job in use that is marked by neither 0 nor 1 is not sound
 --   not_board            nor is what stands for words that are not as many as a board has
@@ -13,20 +13,18 @@ use native.Mathlib.Omega.{arith}
 use lib.ListN.{length, drop}
 use borrow.Author.Tests.{eq-eqb, ne_eqb}
 use native.Mathlib.Decide.{ℕ_discrete}
-use Rattle.spec_plain.specs.Limits.{resources, most_uses}
+use Rattle.spec_plain.specs.Limits.{most_uses}
 use Rattle.spec_plain.specs.declared.Use.{Use}
 use Rattle.spec_plain.specs.Plain.{no_use}
-use Rattle.part_lines.specs.declared.Line.{Line}
-use Rattle.part_lines.specs.ArrayLists.{line_of, no_line}
+use Rattle.part_lines.specs.ArrayLists.{line_of}
 use Rattle.part_lines.proofs.Lists.{held_next, held_over}
 use Rattle.base_lists.specs.Loops.{all_below}
 use Rattle.part_boardwords.specs.Layout.{board_size}
-use Rattle.part_boardwords.specs.Words.{Words, word_in, use_at, line_read, line_at, lines_read, uses_read}
+use Rattle.part_boardwords.specs.Words.{Words, word_in, use_at, line_read, uses_read}
 use Rattle.part_boardwords.specs.Words.{board_in, board_read, frame_read, lent_board, all_marked, is_marked}
 use Rattle.base_lists.proofs.Build.{build_length, build_at}
 use Rattle.part_boardwords.proofs.Lent.{lent_table, cells_lent}
 use Rattle.part_sound.specs.Sound.{clauses_kept, sound}
-use Rattle.part_sound.proofs.Flags.{left_next}
 
 module _ (w : Words) (at : ℕ) (small : w at ≤ most_uses) where
   long : length (uses_read w at) ≡ most_uses
@@ -39,11 +37,6 @@ module _ (w : Words) (at : ℕ) (small : w at ≤ most_uses) where
 
   pub use_over : (k : ℕ) → w at ≤ k → drop k (line_of (line_read w at)) ≡ []
   use_over k h = held_over (w at) (uses_read w at) k h
-
-pub lines_next : (w : Words) (k : ℕ) → k < resources → drop k (lines_read w) ≡ line_at w k ∷ drop (k + 1) (lines_read w)
-lines_next w k h =
-    left_next (lines_read w) k no_line (omega (arith, build_length (line_at w) resources))
-    ∙ ap (λ (x : Line). x ∷ drop (k + 1) (lines_read w)) (build_at (line_at w) resources k no_line h)
 
 pub framed_in : (w : List ℕ) → length w ≡ board_size → frame_read (word_in w) (lent_table w) ≡ board_in w
 framed_in w len = ap (frame_read (word_in w)) (cells_lent w len)

@@ -1,4 +1,5 @@
 pub mod Flags
+mod SentFirst
 pub mod Soundness
 pub mod InWords
 pub mod Whole

@@ -12,51 +12,34 @@ use part_boardwords::{job_at, layout};
 use part_gaps::BIAS;
 use spec_plain::{Job, limits};
 
+// Each job but the first is unsent, or stands behind one that was sent. The two are joined by `|`, so that a job takes one branch.
 pub fn is_sent_first(w: &[u32]) -> bool
     requires { (cells_at ≤ length w.now) × (word_in w.now count_at ≤ most_jobs) }
     ensures { result ≡ sent_from true (jobs_of (held_jobs (word_in w.now))) }
 {
     let count = w[layout::COUNT_AT] as usize;
-    let mut ok = true;
-    let mut all = true;
-    for k in 0..count {
-        let job = job_at(w, k);
-        ok = ok & (all | !job.sent);
-        all = all & job.sent;
-    }
-    ok
+    (1..count).all(|k| job_at(w, k - 1).sent | !job_at(w, k).sent)
 }
 
-// The two are twice the bias together. They are not added: they may be any numbers.
+// The two are twice the bias together. They may be any numbers, also such whose sum is past a u32.
 fn cancel(a: u32, b: u32) -> bool
     ensures { result ≡ eqb (a + b) (bias + bias) }
 {
-    if 2 * BIAS < a {
-        return false;
-    }
-    b == 2 * BIAS - a
+    a.checked_add(b) == Some(2 * BIAS)
 }
 
 fn stand_still(t: &[u32], x: usize, m: usize) -> bool
     requires { (length t.now ≡ cell_count) × (x + m ≤ side) }
     ensures { result ≡ stand_still t.now x m }
 {
-    let mut ok = true;
-    for k in 0..m {
-        let i = x + k;
-        ok = ok & cancel(t[i], t[i * limits::SIDE]);
-    }
-    ok
+    (x..x + m).all(|i| cancel(t[i], t[i * limits::SIDE]))
 }
 
 fn is_job_still(t: &[u32], x: usize, job: Job) -> bool
     requires { (length t.now ≡ cell_count) × (x + job.points ≤ side) }
     ensures { result ≡ still_job t.now x job }
 {
-    if !job.sent {
-        return true;
-    }
-    stand_still(t, x, job.points as usize)
+    !job.sent || stand_still(t, x, job.points as usize)
 }
 
 pub fn is_sent_still(w: &[u32], t: &[u32]) -> bool
@@ -68,7 +51,7 @@ pub fn is_sent_still(w: &[u32], t: &[u32]) -> bool
     let mut x = 1;
     for k in 0..count {
         let job = job_at(w, k);
-        ok = ok & is_job_still(t, x, job);
+        ok &= is_job_still(t, x, job);
         x += job.points as usize;
     }
     ok

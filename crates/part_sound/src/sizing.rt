@@ -13,19 +13,20 @@ use spec_plain::{Job, Settings};
 pub fn are_settings_sized(s: Settings) -> bool
     ensures { result ≡ sized_settings s }
 {
-    (1 <= s.horizon) & (s.horizon <= 100_000_000) & (s.lead <= 1_000_000)
+    (1..=100_000_000).contains(&s.horizon) && s.lead <= 1_000_000
 }
 
 pub fn are_numbers_sized(s: Settings, clock: u32) -> bool
     ensures { result ≡ sized_numbers s clock }
 {
-    are_settings_sized(s) & (clock <= s.horizon)
+    are_settings_sized(s) && clock <= s.horizon
 }
 
+// Joined by `&`, so that a job takes one branch, in `is_each_sized`.
 fn is_job_sized(job: Job, horizon: u32) -> bool
     ensures { result ≡ sized_job horizon job }
 {
-    (2 <= job.points) & (job.points <= 9) & (job.due <= horizon)
+    (2..=9).contains(&job.points) & (job.due <= horizon)
 }
 
 // The jobs in use, each read where it lies.
@@ -34,10 +35,5 @@ pub fn is_each_sized(w: &[u32], horizon: u32) -> bool
     ensures { result ≡ all_of (sized_job horizon) (jobs_of (held_jobs (word_in w.now))) }
 {
     let count = w[layout::COUNT_AT] as usize;
-    let mut ok = true;
-    for k in 0..count {
-        let job = job_at(w, k);
-        ok = ok & is_job_sized(job, horizon);
-    }
-    ok
+    (0..count).all(|k| is_job_sized(job_at(w, k), horizon))
 }

@@ -22,8 +22,7 @@ use Rattle.base_rulings.specs.Answer.{cause, refused}
 use Rattle.base_rulings.proofs.RulingLaws.{refused_no}
 use Rattle.read_facts.specs.declared.Literals.{Literals}
 use Rattle.read_facts.specs.declared.Action.{Action}
-use Rattle.read_facts.specs.declared.Need.{Need}
-use Rattle.read_facts.specs.declared.Need.TheVariants.{Facts, Clash}
+use Rattle.std.specs.Prelude.{Result, Ok, Err}
 use Rattle.read_facts.specs.Regression.{undoes, regressed, back_over, then_back, work_back, lacking, at_start, on_need, fact_ruling}
 use Rattle.read_facts.specs.Forward.{FullState, Holds, after, RunsThrough, AllRun}
 use Rattle.read_facts.proofs.Bools.{clash, not_so}
@@ -35,17 +34,17 @@ Fair [] = Unit
 Fair (a ∷ rest) = (share a.makes.pos a.makes.neg ≡ false) × Fair rest
 
 -- what the answer of the regression says of every state
-abbrev pub Meaning : List Action → Literals → Need → Type 0
-Meaning chain goal (Facts l) = (σ : FullState) → (Holds l σ → RunsThrough chain goal σ) × (RunsThrough chain goal σ → Holds l σ)
-Meaning chain goal (Clash c) = (σ : FullState) → RunsThrough chain goal σ → ⊥
+abbrev pub Meaning : List Action → Literals → Result Literals Cause → Type 0
+Meaning chain goal (Ok l) = (σ : FullState) → (Holds l σ → RunsThrough chain goal σ) × (RunsThrough chain goal σ → Holds l σ)
+Meaning chain goal (Err c) = (σ : FullState) → RunsThrough chain goal σ → ⊥
 
 module _ (a : Action) (rest : List Action) (goal : Literals) (k : ℕ) (fair : share a.makes.pos a.makes.neg ≡ false) where
-  one_more : (l : Literals) → Meaning rest goal (Facts l) → Meaning (a ∷ rest) goal (back_over a k l)
+  one_more : (l : Literals) → Meaning rest goal (Ok l) → Meaning (a ∷ rest) goal (back_over a k l)
   unfolding back_over
   one_more l ih = go (undoes a l) refl (share (regressed a l).pos (regressed a l).neg) refl
     where
       go : (u : Bool) → undoes a l ≡ u → (v : Bool) → share (regressed a l).pos (regressed a l).neg ≡ v
-          → Meaning (a ∷ rest) goal (cond u (Clash (cause 11 k)) (cond v (Clash (cause 12 k)) (Facts (regressed a l))))
+          → Meaning (a ∷ rest) goal (cond u (Err (cause 11 k)) (cond v (Err (cause 12 k)) (Ok (regressed a l))))
       go true e v g = λ σ r. clash e (undone a σ l fair ((ih (after a σ)).1 r.1))
       go false e true g = λ σ r. clash g (no_clash (regressed a l) σ (backward a σ l r.0 ((ih (after a σ)).1 r.1)))
       go false e false g =
@@ -54,9 +53,9 @@ module _ (a : Action) (rest : List Action) (goal : Literals) (k : ℕ) (fair : s
             λ r. backward a σ l r.0 ((ih (after a σ)).1 r.1),
           )
 
-  one_more_of : (n : Need) → Meaning rest goal n → Meaning (a ∷ rest) goal (then_back a k n)
-  one_more_of (Facts l) ih = one_more l ih
-  one_more_of (Clash c) ih = λ σ r. ih (after a σ) r.1
+  one_more_of : (n : Result Literals Cause) → Meaning rest goal n → Meaning (a ∷ rest) goal (then_back a k n)
+  one_more_of (Ok l) ih = one_more l ih
+  one_more_of (Err c) ih = λ σ r. ih (after a σ) r.1
 
 pub meaning : (chain : List Action) (goal : Literals) (k : ℕ) → Fair chain → Meaning chain goal (work_back chain k goal)
 meaning [] goal k fair = λ σ. (λ h. h, λ h. h)
@@ -134,14 +133,14 @@ module _ (known : Literals) where
       (λ k e. lacks_cases known l k e (λ p q. clash (hl.0 k p) q) (λ p q. clash (ap not q) (hm.1 k p))))
 
   module _ (goal : Literals) (chain : List Action) (fair : Fair chain) where
-    accepted_at : (n : Need) → Meaning chain goal n → on_need known n ≡ Accepted → AllRun known chain goal
-    accepted_at (Facts l) m e σ h = (m σ).0 (known_enough l e σ h)
-    accepted_at (Clash c) m e σ h = absurd (refused_no c e)
+    accepted_at : (n : Result Literals Cause) → Meaning chain goal n → on_need known n ≡ Accepted → AllRun known chain goal
+    accepted_at (Ok l) m e σ h = (m σ).0 (known_enough l e σ h)
+    accepted_at (Err c) m e σ h = absurd (refused_no c e)
 
-    runs_at : share known.pos known.neg ≡ false → (n : Need) → Meaning chain goal n → AllRun known chain goal → on_need known n ≡ Accepted
-    runs_at s (Facts l) m run =
+    runs_at : share known.pos known.neg ≡ false → (n : Result Literals Cause) → Meaning chain goal n → AllRun known chain goal → on_need known n ≡ Accepted
+    runs_at s (Ok l) m run =
         nothing_lacks l ((m (least known)).1 (run (least known) (least_holds known s))) ((m (most known)).1 (run (most known) (most_holds known s)))
-    runs_at s (Clash c) m run = absurd (m (least known) (run (least known) (least_holds known s)))
+    runs_at s (Err c) m run = absurd (m (least known) (run (least known) (least_holds known s)))
 
     pub accepted_runs : fact_ruling known goal chain ≡ Accepted → AllRun known chain goal
     unfolding fact_ruling

@@ -15,12 +15,12 @@ use lib.Dec.{eqb}
 use borrow.Author.Tests.{eqb-false, ne_eqb}
 use Rattle.base_masks.specs.Mask.{has, share, lowest}
 use Rattle.base_masks.proofs.MaskLaws.{lowest_has, lowest_least, zero_none, join_lt, strike_lt}
+use Rattle.base_rulings.specs.declared.Cause.{Cause}
 use Rattle.base_rulings.specs.declared.Ruling.TheVariants.{Accepted}
 use Rattle.base_rulings.specs.Answer.{cause, refused}
 use Rattle.read_facts.specs.declared.Literals.{Literals}
 use Rattle.read_facts.specs.declared.Action.{Action}
-use Rattle.read_facts.specs.declared.Need.{Need}
-use Rattle.read_facts.specs.declared.Need.TheVariants.{Facts, Clash}
+use Rattle.std.specs.Prelude.{Result, Ok, Err}
 use Rattle.read_facts.specs.Regression.{undoes, regressed, back_over, then_back, work_back, lacking, at_start, on_need, fact_ruling}
 use Rattle.read_facts.specs.Forward.{RunsThrough, Lacks, Thirteen}
 use Rattle.read_facts.proofs.Bools.{clash}
@@ -35,9 +35,9 @@ SmallNeeds [] = Unit
 SmallNeeds (a ∷ rest) = Small a.needs × SmallNeeds rest
 
 -- what else the regression's answer is: no fact needed both ways, masks of 32 bits; and a clash is never a 13
-abbrev Consistent : Need → Type 0
-Consistent (Facts l) = (share l.pos l.neg ≡ false) × Small l
-Consistent (Clash c) = (k : ℕ) → c ≡ cause 13 k → ⊥
+abbrev Consistent : Result Literals Cause → Type 0
+Consistent (Ok l) = (share l.pos l.neg ≡ false) × Small l
+Consistent (Err c) = (k : ℕ) → c ≡ cause 13 k → ⊥
 
 regressed_small : (a : Action) (l : Literals) → Small a.needs → Small l → Small (regressed a l)
 unfolding regressed
@@ -52,14 +52,14 @@ unfolding back_over
 consistent_back a k l na nl = go (undoes a l) (share (regressed a l).pos (regressed a l).neg) refl
   where
     go : (u v : Bool) → share (regressed a l).pos (regressed a l).neg ≡ v
-        → Consistent (cond u (Clash (cause 11 k)) (cond v (Clash (cause 12 k)) (Facts (regressed a l))))
+        → Consistent (cond u (Err (cause 11 k)) (cond v (Err (cause 12 k)) (Ok (regressed a l))))
     go true v g = λ j e. let z : ◌≡◌ {A = ℕ} 0 1 = cc in omega arith
     go false true g = λ j e. let z : ◌≡◌ {A = ℕ} 0 1 = cc in omega arith
     go false false g = (g, regressed_small a l na nl)
 
-consistent_then : (a : Action) (k : ℕ) (n : Need) → Small a.needs → Consistent n → Consistent (then_back a k n)
-consistent_then a k (Facts l) na p = consistent_back a k l na p.1
-consistent_then a k (Clash c) na p = p
+consistent_then : (a : Action) (k : ℕ) (n : Result Literals Cause) → Small a.needs → Consistent n → Consistent (then_back a k n)
+consistent_then a k (Ok l) na p = consistent_back a k l na p.1
+consistent_then a k (Err c) na p = p
 
 consistent :
     (chain : List Action) (goal : Literals) (k : ℕ) → share goal.pos goal.neg ≡ false → Small goal → SmallNeeds chain → Consistent (work_back chain k goal)
@@ -74,7 +74,7 @@ lack_is x k e = go (eqb x 0) refl e
     go false p q = (eqb-false x 0 p, cc)
 
 module _ (known goal : Literals) (chain : List Action) where
-  module _ (l : Literals) (m : Meaning chain goal (Facts l)) (s : share l.pos l.neg ≡ false) where
+  module _ (l : Literals) (m : Meaning chain goal (Ok l)) (s : share l.pos l.neg ≡ false) where
     least_runs : RunsThrough chain goal (least l)
     least_runs = (m (least l)).0 (least_holds l s)
 
@@ -97,9 +97,9 @@ module _ (known goal : Literals) (chain : List Action) where
         shown true e = refl
         shown false e = sym e
 
-  thirteen_at : (n : Need) → Meaning chain goal n → Consistent n → (k : ℕ) → on_need known n ≡ refused 13 k → Thirteen known goal chain k
+  thirteen_at : (n : Result Literals Cause) → Meaning chain goal n → Consistent n → (k : ℕ) → on_need known n ≡ refused 13 k → Thirteen known goal chain k
   unfolding at_start
-  thirteen_at (Facts l) m p k e =
+  thirteen_at (Ok l) m p k e =
       let q = lack_is (lacking known l) k e in
       let bound = lacking_small known l p.1 in
       record {
@@ -108,7 +108,7 @@ module _ (known goal : Literals) (chain : List Action) where
             λ j h w. clash (lacks_lacking l m p.0 j w) (lowest_least (lacking known l) j (subst (λ (x : ℕ). j < x) (sym q.1) h));
         some_run = (least l, least_runs l m p.0);
       }
-  thirteen_at (Clash c) m p k e = absurd (p k (cc))
+  thirteen_at (Err c) m p k e = absurd (p k (cc))
 
   pub thirteen :
       Fair chain → SmallNeeds chain → Small goal → share goal.pos goal.neg ≡ false
@@ -118,9 +118,9 @@ module _ (known goal : Literals) (chain : List Action) where
       thirteen_at (work_back chain 0 goal) (meaning chain goal 0 fair) (consistent chain goal 0 s small needs)
 
   -- the other way: a fact of which this holds is the one that the ruling names
-  only_at : (n : Need) → Meaning chain goal n → Consistent n → (k : ℕ) → Thirteen known goal chain k → on_need known n ≡ refused 13 k
+  only_at : (n : Result Literals Cause) → Meaning chain goal n → Consistent n → (k : ℕ) → Thirteen known goal chain k → on_need known n ≡ refused 13 k
   unfolding at_start
-  only_at (Facts l) m p k w =
+  only_at (Ok l) m p k w =
       let x = lacking known l in
       let lacks : has x k ≡ true = lacks_lacking l m p.0 k w.lacks in
       let some : (x ≡ 0 → ⊥) = λ z. zero_none k (subst (λ (y : ℕ). has y k ≡ true) z lacks) in
@@ -137,7 +137,7 @@ module _ (known goal : Literals) (chain : List Action) where
           go (yes h) d = absurd (f h)
           go (no h) (yes q) = absurd (g q)
           go (no h) (no q) = omega arith
-  only_at (Clash c) m p k w = absurd (m w.some_run.0 w.some_run.1)
+  only_at (Err c) m p k w = absurd (m w.some_run.0 w.some_run.1)
 
   pub thirteen_only :
       Fair chain → SmallNeeds chain → Small goal → share goal.pos goal.neg ≡ false

@@ -3,65 +3,68 @@
 #![tactic(auto)]
 
 ghost use Rattle.std.specs.Prelude.{◌≡◌};
+ghost use Rattle.base_masks.specs.Mask.{share};
+ghost use Rattle.base_rulings.specs.Order.{passed_as};
 ghost use Rattle.read_facts.specs.Regression.{undoes, regressed, back_over, lacking, at_start};
 
 use base_masks::{difference, first, overlap, union};
-use base_rulings::{Cause, Ruling};
+use base_rulings::Cause;
 
 // Facts that are true (pos) and facts that are false (neg). Document 01 writes them as two masks: known-true and
 // known-false, goal-true and goal-false, needs-true and needs-false, makes-true and makes-false.
-#[derive(Clone, Copy)]
+#[derive(Clone, Copy, Debug, PartialEq, Eq)]
 pub struct Literals {
     pub pos: u32,
     pub neg: u32,
 }
 
+impl Literals {
+    // Whether a fact is both true and false.
+    pub fn has_both(self) -> bool
+        ensures { result ≡ share self.pos self.neg }
+    {
+        overlap(self.pos, self.neg)
+    }
+}
+
 // What an action needs and what it makes.
-#[derive(Clone, Copy)]
+#[derive(Clone, Copy, Debug, PartialEq, Eq)]
 pub struct Action {
     pub needs: Literals,
     pub makes: Literals,
 }
 
-// What must hold at a place in the chain, or why nothing will do there.
-#[derive(Clone, Copy)]
-pub enum Need {
-    Facts(Literals),
-    Clash(Cause),
-}
+impl Action {
+    // Whether it makes false a fact needed true after it, or true one needed false.
+    fn undoes(self, after: Literals) -> bool
+        ensures { result ≡ undoes self after }
+    {
+        overlap(after.pos, self.makes.neg) || overlap(after.neg, self.makes.pos)
+    }
 
-// Whether the action makes false a fact needed true after it, or true one needed false.
-fn is_undoing(a: Action, after: Literals) -> bool
-    ensures { result ≡ undoes a after }
-{
-    if overlap(after.pos, a.makes.neg) {
-        return true;
+    // What must hold before it: what it makes as needed is struck, and its own needs are added.
+    fn regress(self, after: Literals) -> Literals
+        ensures { result ≡ regressed self after }
+    {
+        Literals {
+            pos: union(difference(after.pos, self.makes.pos), self.needs.pos),
+            neg: union(difference(after.neg, self.makes.neg), self.needs.neg),
+        }
     }
-    overlap(after.neg, a.makes.pos)
-}
 
-// What must hold before the action: what it makes as needed is struck, and its own needs are added.
-fn regress(a: Action, after: Literals) -> Literals
-    ensures { result ≡ regressed a after }
-{
-    Literals {
-        pos: union(difference(after.pos, a.makes.pos), a.needs.pos),
-        neg: union(difference(after.neg, a.makes.neg), a.needs.neg),
+    // One step back: 11, then 12, or what must hold before the step.
+    pub fn back_over(self, step: u32, after: Literals) -> Result<Literals, Cause>
+        ensures { result ≡ back_over self step after }
+    {
+        if self.undoes(after) {
+            return Err(Cause::Step(11, step));
+        }
+        let need = self.regress(after);
+        if need.has_both() {
+            return Err(Cause::Step(12, step));
+        }
+        Ok(need)
     }
-}
-
-// One step back: 11, then 12, or what must hold before the step.
-pub fn back_over(a: Action, step: u32, after: Literals) -> Need
-    ensures { result ≡ back_over a step after }
-{
-    if is_undoing(a, after) {
-        return Need::Clash(Cause::Step(11, step));
-    }
-    let need = regress(a, after);
-    if overlap(need.pos, need.neg) {
-        return Need::Clash(Cause::Step(12, step));
-    }
-    Need::Facts(need)
 }
 
 // The facts needed that are not known so. An unknown fact is neither known true nor known false.
@@ -75,12 +78,12 @@ fn find_lacking(known: Literals, need: Literals) -> u32
 }
 
 // At the start each needed fact must be known so: 13 with the lowest that is not.
-pub fn at_start(known: Literals, need: Literals) -> Ruling
-    ensures { result ≡ at_start known need }
+pub fn at_start(known: Literals, need: Literals) -> Result<(), Cause>
+    ensures { result ≡ passed_as (at_start known need) }
 {
     let lack = find_lacking(known, need);
     if lack == 0 {
-        return Ruling::Accepted;
+        return Ok(());
     }
-    Ruling::Refused(Cause::Fact(13, first(lack)))
+    Err(Cause::Fact(13, first(lack)))
 }

@@ -1,4 +1,3 @@
 pub mod Steps
 pub mod Chain
-pub mod ChainMasks
 pub mod Right

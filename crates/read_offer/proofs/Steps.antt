@@ -15,8 +15,7 @@ use borrow.Author.Tests.{eq-eqb, ne_eqb, lt-ltb, le-ltb, le-leb, lt-leb, ltb-fal
 use Rattle.base_words.specs.Word.{word}
 use Rattle.base_rulings.specs.declared.Cause.{Cause}
 use Rattle.base_rulings.specs.declared.Ruling.TheVariants.{Accepted, Refused}
-use Rattle.base_rulings.specs.declared.Record.{Record}
-use Rattle.base_rulings.specs.declared.Record.TheVariants.{Ends, Fails}
+use Rattle.std.specs.Prelude.{Result, Ok, Err}
 use Rattle.base_rulings.specs.Answer.{cause, refuse}
 use Rattle.base_rulings.specs.Order.{and_then, first_refusal, refusal_of}
 use Rattle.base_rulings.proofs.RulingLaws.{refused_no, fails_no, passed, neither, both_passed, first_all}
@@ -27,20 +26,20 @@ use Rattle.read_offer.specs.Offer.{header_size, step_count, place_count, step_en
 -- ---- one step
 
 module _ (p o : List ℕ) (k at : ℕ) where
-  pub too_short : length o < at + 4 → Fails (cause 8 k) ≡ step_at p o k at
+  pub too_short : length o < at + 4 → Err (cause 8 k) ≡ step_at p o k at
   unfolding step_at
   too_short l = simp (lt-ltb _ _ l)
 
   module _ (t : Trailer) (x : ℕ) (et : t ≡ trailer_of p) (long : at + 4 ≤ length o) (ex : x ≡ word o at) where
-    pub no_action_lem : t.count ≤ x → Fails (cause 8 k) ≡ step_at p o k at
+    pub no_action_lem : t.count ≤ x → Err (cause 8 k) ≡ step_at p o k at
     unfolding step_at
     no_action_lem l = simp (le-ltb _ _ long, ← ex, ← et, le-leb _ _ l)
 
-    pub cut_off : (n : ℕ) → x < t.count → n ≡ place_count p x → length o < at + 4 + 4 * n → Fails (cause 8 k) ≡ step_at p o k at
+    pub cut_off : (n : ℕ) → x < t.count → n ≡ place_count p x → length o < at + 4 + 4 * n → Err (cause 8 k) ≡ step_at p o k at
     unfolding step_at
     cut_off n l en c = simp (le-ltb _ _ long, ← ex, ← et, lt-leb _ _ l, ← en, lt-ltb _ _ c)
 
-    pub step_ends : (n : ℕ) → x < t.count → n ≡ place_count p x → at + 4 + 4 * n ≤ length o → Ends (at + 4 + 4 * n) ≡ step_at p o k at
+    pub step_ends : (n : ℕ) → x < t.count → n ≡ place_count p x → at + 4 + 4 * n ≤ length o → Ok (at + 4 + 4 * n) ≡ step_at p o k at
     unfolding step_at
     step_ends n l en c = simp (le-ltb _ _ long, ← ex, ← et, lt-leb _ _ l, ← en, le-ltb _ _ c)
 
@@ -49,12 +48,12 @@ pub record Step (p o : List ℕ) (at : ℕ) : Type 0 where
   pub known : word o at < (trailer_of p).count
   pub whole : step_end p o at ≤ length o
 
-step_of : (p o : List ℕ) (k at end : ℕ) → step_at p o k at ≡ Ends end → (Step p o at) × (end ≡ step_end p o at)
+step_of : (p o : List ℕ) (k at end : ℕ) → step_at p o k at ≡ Ok end → (Step p o at) × (end ≡ step_end p o at)
 unfolding step_at
 step_of p o k at end e = go (ltb (length o) (at + 4) || (leb (trailer_of p).count (word o at) || ltb (length o) (step_end p o at))) refl e
   where
     go : (b : Bool) → (ltb (length o) (at + 4) || (leb (trailer_of p).count (word o at) || ltb (length o) (step_end p o at))) ≡ b
-        → cond b (Fails (cause 8 k)) (Ends (step_end p o at)) ≡ Ends end → (Step p o at) × (end ≡ step_end p o at)
+        → cond b (Err (cause 8 k)) (Ok (step_end p o at)) ≡ Ok end → (Step p o at) × (end ≡ step_end p o at)
     go true q r = absurd (fails_no (cause 8 k) end r)
     go false q r =
         let long = neither (ltb (length o) (at + 4)) _ q in
@@ -67,12 +66,12 @@ pub first_start : (p o : List ℕ) → header_size ≡ step_start p o 0
 unfolding step_start
 first_start p o = refl
 
-module _ (p o : List ℕ) (k at : ℕ) (x : Record) (ea : at ≡ step_start p o k) (ex : x ≡ step_at p o k at) where
+module _ (p o : List ℕ) (k at : ℕ) (x : Result ℕ Cause) (ea : at ≡ step_start p o k) (ex : x ≡ step_at p o k at) where
   pub ruling_is : refusal_of x ≡ step_ruling p o k
   unfolding step_ruling
   ruling_is = ap refusal_of {y = step_at p o k (step_start p o k)} (ex ∙ rw (← ea))
 
-  pub next_start : (end : ℕ) → x ≡ Ends end → (end ≤ length o) × (end ≡ step_start p o (k + 1))
+  pub next_start : (end : ℕ) → x ≡ Ok end → (end ≤ length o) × (end ≡ step_start p o (k + 1))
   unfolding step_start
   next_start end e =
       let s = step_of p o k at end (sym ex ∙ e) in
@@ -108,9 +107,9 @@ pub record Read (p o : List ℕ) : Type 0 where
   pub few : step_count o ≤ 8
   pub steps : (k : ℕ) → k < step_count o → Step p o (step_start p o k)
 
-accepted_step : (p o : List ℕ) (k at : ℕ) (x : Record) → step_at p o k at ≡ x → refusal_of x ≡ Accepted → Step p o at
-accepted_step p o k at (Ends end) e q = (step_of p o k at end e).0
-accepted_step p o k at (Fails c) e q = absurd (refused_no c q)
+accepted_step : (p o : List ℕ) (k at : ℕ) (x : Result ℕ Cause) → step_at p o k at ≡ x → refusal_of x ≡ Accepted → Step p o at
+accepted_step p o k at (Ok end) e q = (step_of p o k at end e).0
+accepted_step p o k at (Err c) e q = absurd (refused_no c q)
 
 ruled_step : (p o : List ℕ) (k : ℕ) → step_ruling p o k ≡ Accepted → Step p o (step_start p o k)
 unfolding step_ruling

@@ -1,2 +1,1 @@
 pub mod Offer
-pub mod ChainMasks

@@ -8,13 +8,12 @@
 --   consistency_ruling o   10: whether the known facts and the goal are consistent, each in itself
 --   chain_ruling p o    the first of refusals 11 to 13, for an offer that passed 7 to 10
 --   fact_check p o      the first of refusals 1 to 4 and 7 to 13
-use Rattle.std.specs.Prelude.{ℕ, zero, suc, ◌+◌, ◌*◌, List, [], ◌∷◌, cond, ◌||◌, length, ltb, leb, eqb}
+use Rattle.std.specs.Prelude.{ℕ, zero, suc, ◌+◌, ◌*◌, List, [], ◌∷◌, cond, ◌||◌, length, ltb, leb, eqb, Result, Ok, Err}
 use Rattle.base_words.specs.Word.{word}
 use Rattle.base_masks.specs.Mask.{share}
+use Rattle.base_rulings.specs.declared.Cause.{Cause}
 use Rattle.base_rulings.specs.declared.Ruling.{Ruling}
 use Rattle.base_rulings.specs.declared.Ruling.TheVariants.{Accepted}
-use Rattle.base_rulings.specs.declared.Record.{Record}
-use Rattle.base_rulings.specs.declared.Record.TheVariants.{Ends, Fails}
 use Rattle.base_rulings.specs.Answer.{cause, refuse}
 use Rattle.base_rulings.specs.Order.{and_then, first_refusal, refusal_of}
 use Rattle.read_plant.specs.Plant.{trailer_of, record_start, needs_true, needs_false, makes_true, makes_false, allocation_count, plant_ruling}
@@ -60,10 +59,10 @@ abbrev pub place_at : List ℕ → List ℕ → ℕ → ℕ → ℕ
 place_at p o k j = word o (step_start p o k + 4 + 4 * j)
 
 -- 8: "A step's bytes run past the offer, or the plant has no such action."
-unfoldable pub step_at : List ℕ → List ℕ → ℕ → ℕ → Record
+unfoldable pub step_at : List ℕ → List ℕ → ℕ → ℕ → Result ℕ Cause
 step_at p o k at =
-    cond (ltb (length o) (at + 4) || (leb (trailer_of p).count (word o at) || ltb (length o) (step_end p o at))) (Fails (cause 8 k))
-    (Ends (step_end p o at))
+    cond (ltb (length o) (at + 4) || (leb (trailer_of p).count (word o at) || ltb (length o) (step_end p o at))) (Err (cause 8 k))
+    (Ok (step_end p o at))
 
 unfoldable pub step_ruling : List ℕ → List ℕ → ℕ → Ruling
 step_ruling p o k = refusal_of (step_at p o k (step_start p o k))

@@ -16,8 +16,7 @@ use Rattle.base_words.specs.Word.{word}
 use Rattle.base_masks.specs.Mask.{share}
 use Rattle.base_rulings.specs.declared.Cause.{Cause}
 use Rattle.base_rulings.specs.declared.Ruling.TheVariants.{Accepted, Refused}
-use Rattle.base_rulings.specs.declared.Record.{Record}
-use Rattle.base_rulings.specs.declared.Record.TheVariants.{Ends, Fails}
+use Rattle.std.specs.Prelude.{Result, Ok, Err}
 use Rattle.base_rulings.specs.Answer.{refuse}
 use Rattle.base_rulings.specs.Order.{first_refusal, refusal_of}
 use Rattle.base_rulings.proofs.RulingLaws.{refused_no, passed, neither, first_all}
@@ -36,9 +35,9 @@ pub record Good (s : List ℕ) : Type 0 where
   pub in_place : (a : ℕ) → a < (trailer_of s).count → Placed s (trailer_of s) a (record_start s a)
   pub in_range : (a : ℕ) → a < (trailer_of s).count → bad_action s (record_start s a) ≡ false
 
-accepted_whole : (s : List ℕ) (t : Trailer) (a at : ℕ) (x : Record) → record_at s t a at ≡ x → refusal_of x ≡ Accepted → Whole s t a at (record_end s at)
-accepted_whole s t a at (Ends end) e p = let w = whole s t a at end e in subst (Whole s t a at) w.ends w
-accepted_whole s t a at (Fails c) e p = absurd (refused_no c p)
+accepted_whole : (s : List ℕ) (t : Trailer) (a at : ℕ) (x : Result ℕ Cause) → record_at s t a at ≡ x → refusal_of x ≡ Accepted → Whole s t a at (record_end s at)
+accepted_whole s t a at (Ok end) e p = let w = whole s t a at end e in subst (Whole s t a at) w.ends w
+accepted_whole s t a at (Err c) e p = absurd (refused_no c p)
 
 record_whole : (s : List ℕ) (a : ℕ) → record_ruling s a ≡ Accepted → Whole s (trailer_of s) a (record_start s a) (record_end s (record_start s a))
 unfolding record_ruling
@@ -63,7 +62,11 @@ good s p =
       in_range = λ a h. (record_whole s a (all a two.1 h)).in_range;
     }
 
--- the same, test by test, for `check_plant`
+-- the same, test by test, for `Plant::read`
+pub too_short : (s : List ℕ) → length s < 12 → refuse 1 ≡ plant_ruling s
+unfolding plant_ruling
+too_short s l = simp (lt-ltb _ _ l)
+
 pub unmarked : (s : List ℕ) (marked : Bool) → 12 ≤ length s → marked ≡ is_mark s (length s - 4) → marked ≡ false → refuse 1 ≡ plant_ruling s
 unfolding plant_ruling
 unmarked s marked long em m = simp (le-ltb _ _ long, ← em, m)

@@ -1,28 +1,28 @@
 -- The reading of the records one after the other, where the index says, before a record is read, where the next has to start. Assumes nothing.
 --   index_again     behind the last index entry the trailer has the index's start;  more_records: what follows from it
+--   Reached         where the reading has come to;  Turn, turn: what holds there of one record more
 --   ReadTo          what reading a record finds that has to end at `next`;  read-..: the same, test by test
 --   start_none, first_refused   the first record starts at 0
 --   room_refused    a record whose header passes the index
 --   reading_fails, reading_ends   one record more: the refusal that ends the reading, or where the next record starts
-use Prim.Native.Nat.{ℕ, ◌+◌, ◌-◌, ◌*◌, ◌≤◌, ◌<◌}
+use Prim.Native.Nat.{ℕ, ◌+◌, ◌-◌, ◌*◌, ◌/◌, ◌≤◌, ◌<◌}
 use native.Mathlib.Omega.{arith}
 use native.Mathlib.Numerals.{add-one}
-use mathlib.Core.Path.{◌≡◌, refl, sym, ap, ◌∙◌}
+use mathlib.Core.Path.{◌≡◌, refl, sym, ap, subst, ◌∙◌}
 use mathlib.Core.List.{List}
 use mathlib.Core.Bool.{Bool, true, false, cond, not, ◌&&◌}
 use lib.Dec.{eqb, ltb}
 use lib.ListN.{length}
-use borrow.Author.Tests.{lt-ltb, le-ltb, eqb-true, eqb-false}
+use borrow.Author.Tests.{lt-ltb, le-ltb, eq-eqb, ne_eqb, eqb-true, eqb-false}
 use Rattle.base_words.specs.Word.{word}
 use Rattle.base_rulings.specs.declared.Cause.{Cause}
 use Rattle.base_rulings.specs.declared.Ruling.TheVariants.{Accepted, Refused}
-use Rattle.base_rulings.specs.declared.Record.{Record}
-use Rattle.base_rulings.specs.declared.Record.TheVariants.{Ends, Fails}
+use Rattle.std.specs.Prelude.{Result, Ok, Err}
 use Rattle.base_rulings.specs.Answer.{cause, refused}
 use Rattle.base_rulings.specs.Order.{refusal_of, first_refusal}
 use Rattle.base_rulings.proofs.RulingLaws.{first_none, first_next, first_stops, fails_no}
 use Rattle.read_plant.specs.declared.Trailer.{Trailer}
-use Rattle.read_plant.specs.Plant.{bad_head, bad_record, bad_action, record_at, record_start, record_ruling, trailer_of, record_end}
+use Rattle.read_plant.specs.Plant.{bad_head, bad_record, bad_action, record_at, record_start, record_ruling, trailer_of, record_end, allocation_count}
 use Rattle.read_plant.proofs.Records.{entry_refused, passes_index, head_refused, ends_short, placed}
 
 pub index_again : (s : List ℕ) (t : Trailer) → t ≡ trailer_of s → t.index + 4 * t.count + 12 ≡ length s → word s (t.index + 4 * t.count) ≡ t.index
@@ -43,57 +43,98 @@ more_records s t e l a at h here room = go (eqb a t.count) refl
         absurd (omega (arith, i, k, here, room))
     go false q = let d : a ≡ t.count → ⊥ = eqb-false a t.count q in omega (arith, d, h)
 
-abbrev pub ReadTo : List ℕ → Trailer → ℕ → ℕ → ℕ → Record
+-- which action's index entry stands at `entry`
+abbrev pub number : Trailer → ℕ → ℕ
+number t entry = (entry - t.index) / 4
+
+-- the reading has come to the record of an action, which has to start at `at`
+abbrev pub Reached : List ℕ → Trailer → ℕ → ℕ → Type 0
+Reached s t at action =
+    (action ≤ t.count) × (at ≡ record_start s action) × (word s (t.index + 4 * action) ≡ at) × (first_refusal (record_ruling s) action ≡ Accepted)
+
+-- where a record has room, it is of an action, whose number was told; and the index says where the next one has to start
+pub record Turn (s : List ℕ) (t : Trailer) (at action next : ℕ) : Type 0 where
+  pub reached : Reached s t at action
+  pub more : action < t.count
+  pub there : word s (t.index + 4 * (action + 1)) ≡ next
+  -- the last record has to end where the index starts
+  pub last : action + 1 ≡ t.count → next ≡ t.index
+
+pub turn :
+    (s : List ℕ) (t : Trailer) → t ≡ trailer_of s → t.index + 4 * t.count + 12 ≡ length s
+    → (at entry : ℕ) → Reached s t at (number t entry) → entry ≡ t.index + 4 * number t entry → at + 28 ≤ t.index
+    → (action next : ℕ) → action ≡ number t entry → next ≡ word s (entry + 4) → Turn s t at action next
+turn s t et l at entry reached place room action next ea en =
+    let here = subst (Reached s t at) (sym ea) reached in
+    let there : word s (t.index + 4 * (action + 1)) ≡ next = ap (word s) (omega (arith, ea, place)) ∙ sym en in
+    record {
+      reached = here;
+      more = more_records s t et l action at here.0 here.2 room;
+      there = there;
+      last = λ last. sym there ∙ ap (λ (k : ℕ). word s (t.index + 4 * k)) last ∙ index_again s t et l;
+    }
+
+abbrev pub ReadTo : List ℕ → Trailer → ℕ → ℕ → ℕ → Result ℕ Cause
 ReadTo s t a at next =
-    cond (bad_record s t a at) (Fails (cause 3 a))
-    (cond (bad_action s at) (Fails (cause 4 a))
-    (cond (eqb (record_end s at) next) (Ends next) (Fails (cause 3 (a + 1)))))
+    cond (bad_record s t a at) (Err (cause 3 a))
+    (cond (bad_action s at) (Err (cause 4 a))
+    (cond (eqb (record_end s at) next) (Ok next) (Err (cause 3 (a + 1)))))
 
 -- what the tests of a record come to, one after the other
 module _ (s : List ℕ) (t : Trailer) (a at next : ℕ) (here : word s (t.index + 4 * a) ≡ at) where
-  pub read_head : bad_head s at ≡ true → Fails (cause 3 a) ≡ ReadTo s t a at next
+  pub read_head : bad_head s at ≡ true → Err (cause 3 a) ≡ ReadTo s t a at next
   read_head h = simp (head_refused s t a at here h)
 
-  pub read_past : t.index < record_end s at → Fails (cause 3 a) ≡ ReadTo s t a at next
-  read_past l = simp (passes_index s t a at here l)
+  -- the same with the number of its allocations in hand
+  module _ (n : ℕ) (en : n ≡ allocation_count s at) where
+    pub read_past : t.index < at + 28 + 12 * n → Err (cause 3 a) ≡ ReadTo s t a at next
+    read_past l = simp (passes_index s t a at here (omega (arith, l, en)))
 
-  module _ (head : bad_head s at ≡ false) (within : record_end s at ≤ t.index) (last : a + 1 ≡ t.count → next ≡ t.index) where
-    -- only the last record can still be out of place: by ending elsewhere than at `next`, which is the index
-    end_decides : bad_record s t a at ≡ (not (eqb (record_end s at) next) && eqb (a + 1) t.count)
-    end_decides = ends_short s t a at here head within ∙ go (eqb (a + 1) t.count) refl (eqb (record_end s at) next) refl
-      where
-        go : (l : Bool) → eqb (a + 1) t.count ≡ l → (e : Bool) → eqb (record_end s at) next ≡ e
-            → (l && ltb (record_end s at) t.index) ≡ (not e && l)
-        go false p true q = refl
-        go false p false q = refl
-        go true p true q =
-            let n = last (eqb-true (a + 1) t.count p) in
-            let e = eqb-true (record_end s at) next q in
-            le-ltb (record_end s at) t.index (omega (arith, n, e))
-        go true p false q =
-            let n = last (eqb-true (a + 1) t.count p) in
-            let d = eqb-false (record_end s at) next q in
-            lt-ltb (record_end s at) t.index (omega (arith, n, d, within))
+    module _ (head : bad_head s at ≡ false) (within : at + 28 + 12 * n ≤ t.index) (last : a + 1 ≡ t.count → next ≡ t.index) where
+      ends_within : record_end s at ≤ t.index
+      ends_within = omega (arith, within, en)
 
-    abbrev Cause_of : Bool → Bool → Cause
-    Cause_of ends bad = cond (not ends && eqb (a + 1) t.count) (cause 3 a) (cond bad (cause 4 a) (cause 3 (a + 1)))
+      ends_is : eqb (at + 28 + 12 * n) next ≡ eqb (record_end s at) next
+      ends_is = ap (λ (k : ℕ). eqb (at + 28 + 12 * k) next) en
 
-    pub read_bad : bad_action s at ≡ true → Fails (Cause_of (eqb (record_end s at) next) true) ≡ ReadTo s t a at next
-    read_bad b = simp (end_decides, b) (go (not (eqb (record_end s at) next) && eqb (a + 1) t.count))
-      where
-        go : (m : Bool) → Fails (cond m (cause 3 a) (cause 4 a)) ≡ cond m (Fails (cause 3 a)) (Fails (cause 4 a))
-        go true = refl
-        go false = refl
+      -- only the last record can still be out of place: by ending elsewhere than at `next`, which is the index
+      end_decides : bad_record s t a at ≡ (not (eqb (record_end s at) next) && eqb (a + 1) t.count)
+      end_decides = ends_short s t a at here head ends_within ∙ go (eqb (a + 1) t.count) refl (eqb (record_end s at) next) refl
+        where
+          go : (l : Bool) → eqb (a + 1) t.count ≡ l → (e : Bool) → eqb (record_end s at) next ≡ e
+              → (l && ltb (record_end s at) t.index) ≡ (not e && l)
+          go false p true q = refl
+          go false p false q = refl
+          go true p true q =
+              let n = last (eqb-true (a + 1) t.count p) in
+              let e = eqb-true (record_end s at) next q in
+              le-ltb (record_end s at) t.index (omega (arith, n, e))
+          go true p false q =
+              let n = last (eqb-true (a + 1) t.count p) in
+              let d = eqb-false (record_end s at) next q in
+              let w = ends_within in
+              lt-ltb (record_end s at) t.index (omega (arith, n, d, w))
 
-    pub read_wrong_end : bad_action s at ≡ false → eqb (record_end s at) next ≡ false → Fails (Cause_of false false) ≡ ReadTo s t a at next
-    read_wrong_end b e = simp (end_decides, b, e) (go (eqb (a + 1) t.count))
-      where
-        go : (m : Bool) → Fails (cond m (cause 3 a) (cause 3 (a + 1))) ≡ cond m (Fails (cause 3 a)) (Fails (cause 3 (a + 1)))
-        go true = refl
-        go false = refl
+      pub read_bad :
+          (c : Cause) → c ≡ cond (not (eqb (at + 28 + 12 * n) next) && eqb (a + 1) t.count) (cause 3 a) (cause 4 a) → bad_action s at ≡ true
+          → Err c ≡ ReadTo s t a at next
+      read_bad c e b = simp (e, ends_is, end_decides, b) (go (not (eqb (record_end s at) next) && eqb (a + 1) t.count))
+        where
+          go : (m : Bool) → ◌≡◌ {A = Result ℕ Cause} (Err (cond m (cause 3 a) (cause 4 a))) (cond m (Err (cause 3 a)) (Err (cause 4 a)))
+          go true = refl
+          go false = refl
 
-    pub read_good : bad_action s at ≡ false → eqb (record_end s at) next ≡ true → Ends next ≡ ReadTo s t a at next
-    read_good b e = simp (end_decides, b, e)
+      pub read_wrong_end :
+          (c : Cause) → c ≡ cond (eqb (a + 1) t.count) (cause 3 a) (cause 3 (a + 1)) → bad_action s at ≡ false → (at + 28 + 12 * n ≡ next → ⊥)
+          → Err c ≡ ReadTo s t a at next
+      read_wrong_end c e b d = simp (e, end_decides, b, sym ends_is ∙ ne_eqb _ _ d) (go (eqb (a + 1) t.count))
+        where
+          go : (m : Bool) → ◌≡◌ {A = Result ℕ Cause} (Err (cond m (cause 3 a) (cause 3 (a + 1)))) (cond m (Err (cause 3 a)) (Err (cause 3 (a + 1))))
+          go true = refl
+          go false = refl
+
+      pub read_good : bad_action s at ≡ false → at + 28 + 12 * n ≡ next → Ok next ≡ ReadTo s t a at next
+      read_good b e = simp (end_decides, b, sym ends_is ∙ eq-eqb _ _ e)
 
 pub start_none : (s : List ℕ) → 0 ≡ record_start s 0
 unfolding record_start
@@ -154,13 +195,13 @@ module _ (s : List ℕ) (t : Trailer) (et : t ≡ trailer_of s) where
                 absurd (d (omega (arith, f, w, n)))
             others false q = let e : a + 1 ≡ t.count → ⊥ = eqb-false (a + 1) t.count q in omega (arith, e, l)
 
-      module _ (x : Record) (ex : x ≡ ReadTo s t a at next) where
-        pub reading_fails : (c : Cause) → x ≡ Fails c → first_refusal (record_ruling s) t.count ≡ Refused c
+      module _ (x : Result ℕ Cause) (ex : x ≡ ReadTo s t a at next) where
+        pub reading_fails : (c : Cause) → x ≡ Err c → first_refusal (record_ruling s) t.count ≡ Refused c
         reading_fails c e =
             go (bad_record s t a at) refl (bad_action s at) refl (eqb (record_end s at) next) refl (sym ex ∙ e)
           where
             go : (m : Bool) → bad_record s t a at ≡ m → (o : Bool) → bad_action s at ≡ o → (b : Bool) → eqb (record_end s at) next ≡ b
-                → cond m (Fails (cause 3 a)) (cond o (Fails (cause 4 a)) (cond b (Ends next) (Fails (cause 3 (a + 1))))) ≡ Fails c
+                → cond m (Err (cause 3 a)) (cond o (Err (cause 4 a)) (cond b (Ok next) (Err (cause 3 (a + 1))))) ≡ Err c
                 → first_refusal (record_ruling s) t.count ≡ Refused c
             go true em o eo b eb q = stops (cause 3 a) (out_of_place a at ea em) ∙ ap refusal_of q
             go false em true eo b eb q = stops (cause 4 a) (out_of_range_lem a at ea em eo) ∙ ap refusal_of q
@@ -168,13 +209,13 @@ module _ (s : List ℕ) (t : Trailer) (et : t ≡ trailer_of s) where
             go false em false eo false eb q = wrong_entry em eo (eqb-false (record_end s at) next eb) ∙ ap refusal_of q
 
         pub reading_ends :
-            (end : ℕ) → x ≡ Ends end
+            (end : ℕ) → x ≡ Ok end
             → (end ≡ record_start s (a + 1)) × (word s (t.index + 4 * (a + 1)) ≡ end) × (first_refusal (record_ruling s) (a + 1) ≡ Accepted)
         reading_ends end e =
             go (bad_record s t a at) refl (bad_action s at) refl (eqb (record_end s at) next) refl (sym ex ∙ e)
           where
             go : (m : Bool) → bad_record s t a at ≡ m → (o : Bool) → bad_action s at ≡ o → (b : Bool) → eqb (record_end s at) next ≡ b
-                → cond m (Fails (cause 3 a)) (cond o (Fails (cause 4 a)) (cond b (Ends next) (Fails (cause 3 (a + 1))))) ≡ Ends end
+                → cond m (Err (cause 3 a)) (cond o (Err (cause 4 a)) (cond b (Ok next) (Err (cause 3 (a + 1))))) ≡ Ok end
                 → (end ≡ record_start s (a + 1)) × (word s (t.index + 4 * (a + 1)) ≡ end) × (first_refusal (record_ruling s) (a + 1) ≡ Accepted)
             go true em o eo b eb q = absurd (fails_no (cause 3 a) end q)
             go false em true eo b eb q = absurd (fails_no (cause 4 a) end q)

@@ -12,7 +12,7 @@ use lib.ListN.{get_or}
 use borrow.Author.Tests.{lt-ltb, le-ltb, eq-eqb, ne_eqb, eqb-true, ltb-false, not-false}
 use Rattle.base_words.specs.Word.{word}
 use Rattle.base_masks.specs.Mask.{share}
-use Rattle.base_rulings.specs.declared.Record.TheVariants.{Ends, Fails}
+use Rattle.std.specs.Prelude.{Ok, Err}
 use Rattle.base_rulings.specs.Answer.{cause}
 use Rattle.base_rulings.proofs.RulingLaws.{neither, fails_no}
 use Rattle.read_plant.specs.declared.Trailer.{Trailer}
@@ -99,12 +99,12 @@ pub record Whole (s : List ℕ) (t : Trailer) (a at end : ℕ) : Type 0 where
   pub in_range : bad_action s at ≡ false
   pub ends : end ≡ record_end s at
 
-pub whole : (s : List ℕ) (t : Trailer) (a at end : ℕ) → record_at s t a at ≡ Ends end → Whole s t a at end
+pub whole : (s : List ℕ) (t : Trailer) (a at end : ℕ) → record_at s t a at ≡ Ok end → Whole s t a at end
 unfolding record_at
 whole s t a at end p = go (bad_record s t a at) refl (bad_action s at) refl p
   where
     go : (m : Bool) → bad_record s t a at ≡ m → (o : Bool) → bad_action s at ≡ o
-        → cond m (Fails (cause 3 a)) (cond o (Fails (cause 4 a)) (Ends (record_end s at))) ≡ Ends end → Whole s t a at end
+        → cond m (Err (cause 3 a)) (cond o (Err (cause 4 a)) (Ok (record_end s at))) ≡ Ok end → Whole s t a at end
     go true em o eo q = absurd (fails_no (cause 3 a) end q)
     go false em true eo q = absurd (fails_no (cause 4 a) end q)
     go false em false eo q = record { in_place = em; in_range = eo; ends = cc }

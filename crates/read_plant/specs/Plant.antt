@@ -11,12 +11,11 @@
 --   record_at s t a at   what reading that record finds: where it ends, or the cause;  record_ruling s a: the ruling on action a
 --   plant_ruling s       the first of refusals 1 to 4
 --   allocations_of s a   the part of a good file that holds the allocations of action a
-use Rattle.std.specs.Prelude.{ℕ, zero, suc, ◌+◌, ◌-◌, ◌*◌, List, [], Bool, false, cond, not, ◌&&◌, ◌||◌, length, get_or, take, drop, ltb, eqb}
+use Rattle.std.specs.Prelude.{ℕ, zero, suc, ◌+◌, ◌-◌, ◌*◌, List, [], Bool, false, cond, not, ◌&&◌, ◌||◌, length, get_or, take, drop, ltb, eqb, Result, Ok, Err}
 use Rattle.base_words.specs.Word.{word}
 use Rattle.base_masks.specs.Mask.{share}
+use Rattle.base_rulings.specs.declared.Cause.{Cause}
 use Rattle.base_rulings.specs.declared.Ruling.{Ruling}
-use Rattle.base_rulings.specs.declared.Record.{Record}
-use Rattle.base_rulings.specs.declared.Record.TheVariants.{Ends, Fails}
 use Rattle.base_rulings.specs.Answer.{cause, refuse}
 use Rattle.base_rulings.specs.Order.{first_refusal, refusal_of, if_accepted}
 use Rattle.read_plant.specs.declared.Trailer.{Trailer}
@@ -128,11 +127,11 @@ bad_action s at =
 
 -- ---- the reading: "3 and 4 are tested action by action"; "the first record that fails ends the reading"
 
-unfoldable pub record_at : List ℕ → Trailer → ℕ → ℕ → Record
+unfoldable pub record_at : List ℕ → Trailer → ℕ → ℕ → Result ℕ Cause
 record_at s t a at =
-    cond (bad_record s t a at) (Fails (cause 3 a))
-    (cond (bad_action s at) (Fails (cause 4 a))
-    (Ends (record_end s at)))
+    cond (bad_record s t a at) (Err (cause 3 a))
+    (cond (bad_action s at) (Err (cause 4 a))
+    (Ok (record_end s at)))
 
 unfoldable pub record_ruling : List ℕ → ℕ → Ruling
 record_ruling s a = refusal_of (record_at s (trailer_of s) a (record_start s a))

@@ -6,53 +6,52 @@
 
 mod arguments;
 
-use arguments::{Arguments, is_faulty, read_arguments, write_fault};
-use log_chart::put_chart;
-use log_session::{Options, ROOM, State, flush, replay, replay_argument};
-use log_text::put;
+use arguments::{Arguments, read_arguments};
+use log_chart::Chart;
+use log_session::{ROOM, Show, argument, flush, put_error, replay, replay_file};
+use log_text::Text;
 use part_boardwords::BOARD_WORDS;
 use std::env::Env;
+use std::fmt::Write;
 use std::io::{Eprint, Print};
 use std::rt::Files;
 
 fn main(rt: HostRuntime) {
-    let asked = read_arguments(&rt);
-    let fault = asked.fault;
-    if is_faulty(fault) {
-        write_fault(&rt, fault);
-        return;
+    match read_arguments(&rt) {
+        Ok(asked) => run(&rt, asked),
+        // Where this cannot be written there is nobody to tell.
+        Err(fault) => {
+            let _ = println!(rt; "! 0 {fault}: use replay [--explain] [--chart] [FILE]");
+        }
     }
-    let mut out = [0u8; ROOM];
-    let mut board = [0u32; BOARD_WORDS];
-    let state = replay_asked(&rt, asked, &mut board, &mut out);
-    let end = put_last_board(&mut out, asked.chart, state, &board);
-    flush(&rt, &out, end);
 }
 
-fn replay_asked<R: Env + Files + Input + Print + Eprint>(
-    rt: &R,
-    asked: Arguments,
-    board: &mut [u32; BOARD_WORDS],
-    out: &mut [u8],
-) -> State {
-    let options = Options {
-        shown: true,
-        explain: asked.explain,
+fn run<R: Env + Files + Input + Print + Eprint>(rt: &R, asked: Arguments) {
+    let show = if asked.explain {
+        Show::Meanings
+    } else {
+        Show::Answers
     };
-    if asked.file == 0 {
-        return replay(rt, &mut rt.reader(), b"standard input", options, board, out);
+    let mut board = [0u32; BOARD_WORDS];
+    let mut text: Text<ROOM> = Text::new();
+    let mut name = Text::new();
+    name.put(b"standard input");
+    let replayed = match asked.file {
+        None => replay(rt, rt.reader(), show, &mut board, &mut text),
+        Some(k) => {
+            name = argument(rt, k);
+            replay_file(rt, name.as_bytes(), show, &mut board, &mut text)
+        }
+    };
+    match replayed {
+        Ok(()) if asked.chart => {
+            let _ = write!(text, "\n{}", Chart(&board));
+        }
+        Ok(()) => {}
+        Err(error) => {
+            text.put(b"! ");
+            put_error(&mut text, error, name.as_bytes());
+        }
     }
-    replay_argument(rt, asked.file, options, board, out)
-}
-
-// Puts the chart behind the output that waits, after an empty line, where it is asked for and the log has ended well.
-fn put_last_board(out: &mut [u8], chart: bool, state: State, board: &[u32; BOARD_WORDS]) -> usize {
-    if !chart {
-        return state.waiting;
-    }
-    if state.failed {
-        return state.waiting;
-    }
-    let gap = put(out, state.waiting, b"\n");
-    put_chart(out, gap, board)
+    flush(rt, &text);
 }

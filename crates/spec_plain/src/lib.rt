@@ -5,7 +5,7 @@
 pub mod limits; // how much a board holds
 
 // What a board is made with: its horizon H, the latest time of a point, and its lead D, how long after the clock a job starts at the earliest.
-#[derive(Clone, Copy)]
+#[derive(Clone, Copy, Debug, PartialEq, Eq)]
 pub struct Settings {
     pub horizon: u32,
     pub lead: u32,
@@ -13,7 +13,9 @@ pub struct Settings {
 
 // A job: how many points it has (one more than steps), its batch (0 is none), whether it was sent, and its due time, the latest time of its last
 // point (0 is none).
-#[derive(Clone, Copy)]
+// Stays: batch and due time are words of an offer and of a board, in which 0 means none; the definitions read and write them so (`job_read`, `job_words`,
+// `due_rules`).
+#[derive(Clone, Copy, Debug, PartialEq, Eq)]
 pub struct Job {
     pub points: u32,
     pub batch: u32,
@@ -23,7 +25,7 @@ pub struct Job {
 
 // A use of a resource (document 01: an allocation in a line). It starts `offset` after its point, the start of its step, and
 // ends `length` later.
-#[derive(Clone, Copy)]
+#[derive(Clone, Copy, Debug, PartialEq, Eq)]
 pub struct Use {
     pub point: u32,
     pub offset: u32,
@@ -32,7 +34,7 @@ pub struct Use {
 
 // A rule: the time of `early` plus `more` is at most the time of `late` plus `slack`. So the time of early minus the time of late is at
 // most slack - more, with no negative number in it. Early is the side that is bounded from above; it need not come first.
-#[derive(Clone, Copy)]
+#[derive(Clone, Copy, Debug, PartialEq, Eq)]
 pub struct Rule {
     pub early: u32,
     pub more: u32,
@@ -41,7 +43,7 @@ pub struct Rule {
 }
 
 // A step of an offer: its shortest and its longest duration.
-#[derive(Clone, Copy)]
+#[derive(Clone, Copy, Debug, PartialEq, Eq)]
 pub struct Step {
     pub shortest: u32,
     pub longest: u32,
@@ -49,7 +51,7 @@ pub struct Step {
 
 // An allocation of an offer: its resource, how many uses of the line stand before it (document 01: its place), the number of its step
 // in the offer, its offset and its length.
-#[derive(Clone, Copy)]
+#[derive(Clone, Copy, Debug, PartialEq, Eq)]
 pub struct Allocation {
     pub resource: u32,
     pub place: u32,

@@ -11,13 +11,12 @@ use lib.Dec.{leb, ltb, eqb}
 use lib.ListN.{length}
 use Rattle.base_rulings.specs.declared.Ruling.{Ruling}
 use Rattle.base_rulings.specs.declared.Ruling.TheVariants.{Accepted, Refused}
-use Rattle.base_rulings.specs.declared.Record.TheVariants.{Ends, Fails}
+use Rattle.std.specs.Prelude.{Result, Ok, Err}
+use Rattle.base_rulings.specs.declared.Cause.{Cause}
 use Rattle.base_rulings.specs.Answer.{cause, refused, refuse, number_of}
 use Rattle.base_rulings.specs.Order.{and_then, first_refusal, refusal_of}
 use Rattle.read_facts.specs.declared.Literals.{Literals}
 use Rattle.read_facts.specs.declared.Action.{Action}
-use Rattle.read_facts.specs.declared.Need.{Need}
-use Rattle.read_facts.specs.declared.Need.TheVariants.{Facts, Clash}
 use Rattle.base_masks.specs.Mask.{share, lowest}
 use Rattle.base_words.specs.Word.{word}
 use Rattle.read_facts.specs.Regression.{undoes, regressed, lacking, back_over, then_back, work_back, at_start, on_need, fact_ruling}
@@ -65,7 +64,7 @@ record_early s a =
     let at = record_start s a in
     go (bad_record s (trailer_of s) a at) (bad_action s at) (record_end s at)
   where
-    go : (t q : Bool) (end : ℕ) → Early (refusal_of (cond t (Fails (cause 3 a)) (cond q (Fails (cause 4 a)) (Ends end))))
+    go : (t q : Bool) (end : ℕ) → Early (refusal_of (cond t (Err (cause 3 a)) (cond q (Err (cause 4 a)) (Ok end))))
     go true q end = early (λ e. omega arith) (λ e. omega arith)
     go false true end = early (λ e. omega arith) (λ e. omega arith)
     go false false end = early (λ e. omega arith) (λ e. omega arith)
@@ -83,7 +82,7 @@ step_early p o k =
     let at = step_start p o k in
     go (ltb (length o) (at + 4) || (leb (trailer_of p).count (word o at) || ltb (length o) (step_end p o at))) (step_end p o at)
   where
-    go : (t : Bool) (end : ℕ) → Early (refusal_of (cond t (Fails (cause 8 k)) (Ends end)))
+    go : (t : Bool) (end : ℕ) → Early (refusal_of (cond t (Err (cause 8 k)) (Ok end)))
     go true end = early (λ e. omega arith) (λ e. omega arith)
     go false end = early (λ e. omega arith) (λ e. omega arith)
 
@@ -95,23 +94,23 @@ offer_early p o =
     (cond_early (eqb (step_start p o (step_count o)) (length o)) Accepted (refuse 9)
     (early (λ e. omega arith) (λ e. omega arith)) (early (λ e. omega arith) (λ e. omega arith))))
 
-unfoldable NeedEarly : Need → Type 0
-NeedEarly (Facts l) = Unit {0}
-NeedEarly (Clash c) = Early (Refused c)
+unfoldable NeedEarly : Result Literals Cause → Type 0
+NeedEarly (Ok l) = Unit {0}
+NeedEarly (Err c) = Early (Refused c)
 
 back_early : (chain : List Action) (k : ℕ) (goal : Literals) → NeedEarly (work_back chain k goal)
 unfolding NeedEarly back_over
 back_early [] k goal = tt
 back_early (a ∷ rest) k goal = go (work_back rest (k + 1) goal) (back_early rest (k + 1) goal)
   where
-    choose : (t q : Bool) (l : Literals) → NeedEarly (cond t (Clash (cause 11 k)) (cond q (Clash (cause 12 k)) (Facts l)))
+    choose : (t q : Bool) (l : Literals) → NeedEarly (cond t (Err (cause 11 k)) (cond q (Err (cause 12 k)) (Ok l)))
     choose true q l = early (λ e. omega arith) (λ e. omega arith)
     choose false true l = early (λ e. omega arith) (λ e. omega arith)
     choose false false l = tt
 
-    go : (n : Need) → NeedEarly n → NeedEarly (then_back a k n)
-    go (Facts l) x = choose (undoes a l) (share (regressed a l).pos (regressed a l).neg) (regressed a l)
-    go (Clash c) x = x
+    go : (n : Result Literals Cause) → NeedEarly n → NeedEarly (then_back a k n)
+    go (Ok l) x = choose (undoes a l) (share (regressed a l).pos (regressed a l).neg) (regressed a l)
+    go (Err c) x = x
 
 lacks : (f : ℕ) → Early (refused 13 f)
 lacks f = early (λ e. omega arith) (λ e. omega arith)
@@ -126,11 +125,11 @@ pub chain_early : (p o : List ℕ) → Early (chain_ruling p o)
 unfolding chain_ruling fact_ruling at_start NeedEarly
 chain_early p o = go (known_of o) (work_back (chain_of p o) 0 (goal_of o)) (back_early (chain_of p o) 0 (goal_of o))
   where
-    go : (known : Literals) (n : Need) → NeedEarly n → Early (on_need known n)
-    go known (Facts l) x =
+    go : (known : Literals) (n : Result Literals Cause) → NeedEarly n → Early (on_need known n)
+    go known (Ok l) x =
         cond_early (eqb (lacking known l) 0) Accepted (refused 13 (lowest (lacking known l)))
         (early (λ e. omega arith) (λ e. omega arith)) (lacks (lowest (lacking known l)))
-    go known (Clash c) x = x
+    go known (Err c) x = x
 
 due_early : (s : State) (o : List ℕ) → Tested (due_ruling s o)
 unfolding due_ruling

@@ -18,6 +18,7 @@ use Rattle.part_gaps.specs.Cells.{cell, table_of}
 use Rattle.part_boardwords.specs.Board.{Board}
 use Rattle.part_sound.specs.Sound.{Sound}
 use Rattle.part_sound.proofs.Soundness.{sound_of}
+use Rattle.log_tables.specs.declared.Entry.{Entry}
 use Rattle.log_tables.specs.declared.showing.Which.{Which}
 use Rattle.log_tables.specs.Witness.{witness_on, witness_time}
 use Rattle.log_tables.proofs.Entries.{Names, entry_names, none_exactly}
@@ -58,7 +59,13 @@ module _ (b : Board) (w : Shaped b) (s : Sound b) (i : ℕ) (hi : i < live_point
   )
 
 module _ (b d : Board) (w : Shaped b) (v : Shaped d) (s : Sound b) (t : Sound d) where
-  module _ (i j x y : ℕ) (same : live_points b ≡ live_points d) (e : Names b.gaps d.gaps i j x y) where
+  module _ (a : Entry) (same : live_points b ≡ live_points d) (e : Names b.gaps d.gaps a) where
+    abbrev i : ℕ
+    i = a.row
+
+    abbrev j : ℕ
+    j = a.column
+
     both_live : (i < live_points b) × (j < live_points b)
     both_live = go (dec_lt i (live_points b)) (dec_lt j (live_points b))
       where
@@ -72,22 +79,22 @@ module _ (b d : Board) (w : Shaped b) (v : Shaped d) (s : Sound b) (t : Sound d)
         go (yes p) (no q) = absurd (zeros (inr (omega arith)) (inr (omega (arith, same))))
         go (no p) q = absurd (zeros (inl (omega arith)) (inl (omega (arith, same))))
 
-    shows : Shows (witness_on x y) b d i
-    shows = go (dec_lt y x)
+    shows : Shows (witness_on a.first a.second) b d i
+    shows = go (dec_lt a.second a.first)
       where
-        go : Dec (y < x) → Shows (witness_on x y) b d i
+        go : Dec (a.second < a.first) → Shows (witness_on a.first a.second) b d i
         go (yes h) =
-            subst (λ (z : Which). Shows z b d i) (on_first x y h)
+            subst (λ (z : Which). Shows z b d i) (on_first a.first a.second h)
             (separates b w s i both_live.0 d j same both_live.1 (omega (arith, e.first, e.second)))
         go (no h) =
-            subst (λ (z : Which). Shows z b d i) (on_second x y (omega arith))
+            subst (λ (z : Which). Shows z b d i) (on_second a.first a.second (omega arith))
             (separates d v t i (omega (arith, same, both_live.0)) b j (sym same) (omega (arith, same, both_live.1))
-            (let other : x ≡ y → ⊥ = e.differ in omega (arith, e.first, e.second, other)))
+            (let other : a.first ≡ a.second → ⊥ = e.differ in omega (arith, e.first, e.second, other)))
 
 pub witness_right : WitnessRight
-witness_right b d w v s t i j x y h =
-    let named = entry_names b d (sound_of b w.lines s) (sound_of d v.lines t) w.gaps (w.gaps ∙ sym v.gaps) i j x y h in
-    shows b d w v s t i j x y (live_to b d named.0) named.1
+witness_right b d w v s t a h =
+    let named = entry_names b d (sound_of b w.lines s) (sound_of d v.lines t) w.gaps (w.gaps ∙ sym v.gaps) a h in
+    shows b d w v s t a (live_to b d named.0) named.1
 
 pub count_right : CountRight
 count_right b d w v s t same =

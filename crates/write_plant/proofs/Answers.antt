@@ -17,7 +17,7 @@ use Rattle.base_lists.proofs.Build.{build_length, build_at}
 use Rattle.base_rulings.specs.declared.Cause.{Cause}
 use Rattle.base_rulings.specs.declared.Ruling.{Ruling}
 use Rattle.base_rulings.specs.declared.Ruling.TheVariants.{Accepted, Refused}
-use Rattle.base_rulings.specs.declared.Record.TheVariants.{Ends, Fails}
+use Rattle.std.specs.Prelude.{Ok, Err}
 use Rattle.base_rulings.specs.Answer.{plain, refuse, refused}
 use Rattle.base_rulings.specs.Order.{first_refusal, and_then, refusal_of, if_accepted}
 use Rattle.base_rulings.proofs.RulingLaws.{fails_no, neither, passed, both_passed, first_all}
@@ -76,12 +76,12 @@ module _ (w : List ℕ) where
       let most : n ≤ 128 = ltb-false _ _ (neither (ltb n 1) (ltb 128 n) tests.0).1 in
       omega (arith, most, build_length (action_in w) count)
 
-  pub passed_of : (index : ℕ) → lent_end w ≡ Ends index → Passed index
+  pub passed_of : (index : ℕ) → lent_end w ≡ Ok index → Passed index
   unfolding lent_end
   passed_of index e = go (eqb (length w % 19) 0) refl (actions_ruling (actions_lent w)) refl e
     where
       go : (p : Bool) → eqb (length w % 19) 0 ≡ p → (r : Ruling) → actions_ruling (actions_lent w) ≡ r
-          → cond (not p) (Fails (plain 2)) (ends_if r (length (lent_records w count))) ≡ Ends index → Passed index
+          → cond (not p) (Err (plain 2)) (ends_if r (length (lent_records w count))) ≡ Ok index → Passed index
       go false ep r er q = absurd (fails_no (plain 2) index q)
       go true ep (Refused c) er q = absurd (fails_no c index q)
       go true ep Accepted er q =
@@ -95,11 +95,11 @@ module _ (w : List ℕ) where
             size = omega (arith, ends, file_length (actions_lent w), build_length (action_in w) count);
           }
 
-  pub fails_is : (room : ℕ) (c : Cause) → lent_end w ≡ Fails c → write_ruling w room ≡ Refused c
+  pub fails_is : (room : ℕ) (c : Cause) → lent_end w ≡ Err c → write_ruling w room ≡ Refused c
   unfolding lent_end write_ruling
   fails_is room c e = go (eqb (length w % 19) 0) (actions_ruling (actions_lent w)) e
     where
-      go : (p : Bool) (r : Ruling) → cond (not p) (Fails (plain 2)) (ends_if r (length (lent_records w count))) ≡ Fails c
+      go : (p : Bool) (r : Ruling) → cond (not p) (Err (plain 2)) (ends_if r (length (lent_records w count))) ≡ Err c
           → cond (not p) (refuse 2) (and_then r (cond (ltb room (length file)) (refuse 22) Accepted)) ≡ Refused c
       go false r q = ap refusal_of q
       go true (Refused d) q = ap refusal_of q

@@ -20,7 +20,7 @@ use Rattle.base_rulings.proofs.RulingLaws.{first_same}
 use Rattle.base_rulings.specs.Order.{first_refusal, refusal_of}
 use Rattle.base_rulings.specs.Answer.{cause, refuse, refused}
 use Rattle.base_rulings.specs.declared.Ruling.TheVariants.{Accepted}
-use Rattle.base_rulings.specs.declared.Record.TheVariants.{Ends, Fails}
+use Rattle.std.specs.Prelude.{Ok, Err}
 use Rattle.read_plant.specs.Plant.{is_mark, trailer_of, bad_layout, record_end, record_start, bad_head, bad_record, bad_action, record_at}
 use Rattle.read_plant.specs.Plant.{record_ruling, plant_ruling}
 use Rattle.write_plant.specs.Written.{ActionFields, no_action, record_of, joined, starts_from, mark, written, action_at, actions_in, bad_fields, action_ruling}
@@ -206,7 +206,7 @@ module _ (acts : List ActionFields) where
           rw (at, place_is, range) (go (ltb 4 (length x.allocations)) (bad_fields x) (record_end (written acts) (start rs a)))
         where
           go : (p q : Bool) (end : ℕ)
-              → refusal_of (cond p (Fails (cause 3 a)) (cond q (Fails (cause 4 a)) (Ends end))) ≡ cond p (refused 3 a) (cond q (refused 4 a) Accepted)
+              → refusal_of (cond p (Err (cause 3 a)) (cond q (Err (cause 4 a)) (Ok end))) ≡ cond p (refused 3 a) (cond q (refused 4 a) Accepted)
           go true q end = refl
           go false true end = refl
           go false false end = refl

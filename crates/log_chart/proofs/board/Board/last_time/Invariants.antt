@@ -1,0 +1,8 @@
+-- The largest time so far is that of the points passed.
+use Rattle.std.proofs.Common.{◌≡◌}
+use Rattle.part_gaps.specs.Cells.{table_of}
+use Rattle.log_chart.specs.Chart.{last_time}
+use Rattle.log_chart.proofs.board.Board.last_time.Given as goal
+
+abbrev pub invariant-loop-k : goal.invariant-loop-k
+invariant-loop-k l = l.last ≡ last_time (table_of l.t) l.k l.time
