@@ -1,11 +1,12 @@
 -- Laws of a list that rows are laid over.
 --   length_laid, laid_none, laid_more, laid_turn   the list stays as long as it was; no row stored; the next row stored
 --   laid_in, laid_beyond     what a reader of the list finds: a row, or what was there
+--   laid_front               the rows laid over a front of the list that is long enough
 use Prim.Native.Nat.{ℕ, zero, suc, ◌+◌, ◌≤◌, ◌<◌}
 use mathlib.Core.Path.{◌≡◌, refl, sym, ◌∙◌, ap}
-use mathlib.Core.List.{List, [], ◌∷◌}
+use mathlib.Core.List.{List, [], ◌∷◌, ◌++◌}
 use native.Mathlib.Omega.{arith}
-use lib.ListN.{length, get_or, set, take}
+use lib.ListN.{length, get_or, set, take, drop, take-append-drop}
 use Rattle.call_report.specs.declared.Row.{Row}
 use Rattle.call_report.specs.Rows.{laid, no_row}
 
@@ -51,3 +52,11 @@ laid_beyond [] l k z h = refl
 laid_beyond (r ∷ rs) [] k z h = refl
 laid_beyond (r ∷ rs) (x ∷ l) zero z h = absurd (omega arith)
 laid_beyond (r ∷ rs) (x ∷ l) (suc k) z h = laid_beyond rs l k z (omega arith)
+
+-- the rows laid over a front of the list that is long enough
+pub laid_front : (rs l : List Row) (n : ℕ) → length rs ≤ n → laid rs (take n l) ++ drop n l ≡ laid rs l
+unfolding laid
+laid_front [] l n h = take-append-drop n l
+laid_front (r ∷ rs) l zero h = absurd (omega arith)
+laid_front (r ∷ rs) [] (suc n) h = refl
+laid_front (r ∷ rs) (x ∷ l) (suc n) h = ap (◌∷◌ r) (laid_front rs l n (omega arith))

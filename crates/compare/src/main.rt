@@ -6,7 +6,7 @@
 mod meaning; // what an entry that differs means
 
 use log_boardtext::Gap;
-use log_session::{Show, argument, argument_count, flush, put_error, replay_file};
+use log_session::{MOST_NAME, Show, argument, argument_count, flush, put_error, replay_file};
 use log_tables::{Compared, compare};
 use log_text::Text;
 use meaning::Meaning;
@@ -43,7 +43,7 @@ fn put_log<R: Env + Files + Print + Eprint>(
     board: &mut [u32; BOARD_WORDS],
     text: &mut Text<ROOM>,
 ) -> bool {
-    let name = argument(rt, k);
+    let name: Text<MOST_NAME> = argument(rt, k);
     match replay_file(rt, name.as_bytes(), Show::Nothing, board, text) {
         Ok(()) => true,
         Err(error) => {
@@ -57,7 +57,8 @@ fn put_log<R: Env + Files + Print + Eprint>(
 // Puts `! FILE: `, with the name of the kth argument's file.
 fn put_name<R: Env>(rt: &R, k: usize, text: &mut Text<ROOM>) {
     text.put(b"! ");
-    text.put(argument(rt, k).as_bytes());
+    let name: Text<MOST_NAME> = argument(rt, k);
+    text.put(name.as_bytes());
     text.put(b": ");
 }
 

@@ -1,6 +1,6 @@
 // What an entry that differs means to a service engineer: what each board says of its two points, how many entries differ, and a timetable that
 // one of the boards allows and the other does not. It puts into words what log_tables and call_report answer, and decides nothing.
-use call_report::{Row, report};
+use call_report::{Row, report_into};
 use log_boardtext::live;
 use log_tables::{Entry, Which, count_differences, witness_on, witness_time};
 use part_boardwords::BOARD_WORDS;
@@ -101,9 +101,7 @@ fn rows_of(w: &[u32; BOARD_WORDS]) -> [Row; limits::MOST_POINTS] {
         earliest: 0,
         latest: 0,
     };
-    let mut rows = [blank; limits::MOST_POINTS];
-    report(w, &mut rows);
-    rows
+    report_into(w, limits::MOST_POINTS as u32, [blank; limits::MOST_POINTS]).rows
 }
 
 // ---- the timetable

@@ -20,7 +20,8 @@ pub fn settings_of(words: &[u8]) -> Result<Settings, Fault> {
 
 // A board made by hand, from its words: every one as it is given. Bytes of another number leave the board as it was.
 pub fn store_board(board: &mut [u32; BOARD_WORDS], hex: &[u8]) -> Result<(), Fault> {
-    let bytes: Text<BOARD_BYTES> = Text::from_hex(hex).map_err(board_fault)?;
+    let mut bytes: Text<BOARD_BYTES> = Text::new();
+    bytes.set_hex(hex).map_err(board_fault)?;
     let bytes = bytes.as_bytes();
     if bytes.len() != BOARD_BYTES {
         return Err(Fault::BoardBytes);

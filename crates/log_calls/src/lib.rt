@@ -34,7 +34,7 @@ pub use faults::Fault;
 use faults::number_of;
 use log_boardtext::{State, Table};
 use log_text::{Text, count};
-use log_writing::{Filed, WriteError, rule_write};
+use log_writing::{WriteError, put_file, rule_write};
 use part_boardwords::{BOARD_WORDS, clear};
 use read_offer::rule_facts;
 use read_plant::{allocations, check_plant};
@@ -94,7 +94,7 @@ impl<'a> Desk<'a> {
         match word {
             Word::List => self.begin_list(argument),
             Word::Plant => {
-                self.plant = Text::from_hex(argument)?;
+                self.plant.set_hex(argument)?;
                 Ok(Answer::Nothing)
             }
             Word::Board => {
@@ -102,23 +102,13 @@ impl<'a> Desk<'a> {
                 Ok(Answer::Nothing)
             }
             Word::Fresh => Ok(Answer::Ruling(fresh(self.board, settings_of(argument)?))),
-            Word::Plan => {
-                // An offer has at most as many bytes as a plant file.
-                let offer: Text<MOST_BYTES> = Text::from_hex(argument)?;
-                let plant = self.plant.as_bytes();
-                let board = &mut *self.board;
-                Ok(Answer::Ruling(plan(board, plant, offer.as_bytes())))
-            }
+            Word::Plan => self.plan_offer(argument),
             Word::Send => Ok(Answer::Ruling(send(self.board, number_of(argument)?))),
             Word::Clock => Ok(Answer::Ruling(clock(self.board, number_of(argument)?))),
             Word::Retire => Ok(Answer::Ruling(retire(self.board))),
             Word::Check => Ok(Answer::Ruling(check_plant(self.plant.as_bytes()))),
             Word::Part => Ok(Answer::Part(number_of(argument)?)),
-            Word::Fact => {
-                let offer: Text<MOST_BYTES> = Text::from_hex(argument)?;
-                let plant = self.plant.as_bytes();
-                Ok(Answer::Ruling(rule_facts(plant, offer.as_bytes())))
-            }
+            Word::Fact => self.check_offer(argument),
             Word::Report => report_answer(number_of(argument)?, self.board),
             Word::Table => Ok(Answer::Table),
             Word::State => Ok(Answer::State),
@@ -127,13 +117,32 @@ impl<'a> Desk<'a> {
     }
 
     // A list begins with no plant file and a board of zeros, as a refused fresh leaves it.
-    fn begin_list(&mut self, name: &[u8]) -> Result<Answer, Fault> {
-        self.plant = Text::new();
+    fn begin_list(&mut self, name: &[u8]) -> Result<Answer, Fault>
+        ensures { self.new.plant.len ≡ 0 }
+    {
+        self.plant.clear();
         clear(self.board, 0, BOARD_WORDS);
         if name.is_empty() {
             return Err(Fault::NoName);
         }
         Ok(Answer::Line)
+    }
+
+    // An offer has at most as many bytes as a plant file. It has room in the functions that read it: a function pays for its room at each call, so that
+    // in `rule` every line would.
+    fn plan_offer(&mut self, hex: &[u8]) -> Result<Answer, Fault> {
+        let mut offer: Text<MOST_BYTES> = Text::new();
+        offer.set_hex(hex)?;
+        let plant = self.plant.as_bytes();
+        let board = &mut *self.board;
+        Ok(Answer::Ruling(plan(board, plant, offer.as_bytes())))
+    }
+
+    fn check_offer(&self, hex: &[u8]) -> Result<Answer, Fault> {
+        let mut offer: Text<MOST_BYTES> = Text::new();
+        offer.set_hex(hex)?;
+        let plant = self.plant.as_bytes();
+        Ok(Answer::Ruling(rule_facts(plant, offer.as_bytes())))
     }
 
     // Puts the answer to this line.
@@ -153,7 +162,7 @@ impl<'a> Desk<'a> {
                     room,
                 },
             ),
-            Answer::File => put_shown(text, Filed(word_and_argument(line).1)),
+            Answer::File => put_file(text, word_and_argument(line).1),
             Answer::Table => put_shown(text, Table(self.board)),
             Answer::State => put_shown(text, State(self.board)),
         }

@@ -3,7 +3,7 @@
 use crate::answers::Answer;
 use crate::faults::Fault;
 use base_rulings::Ruling;
-use call_report::{Row, report};
+use call_report::{Reported, Row, report_into};
 use log_boardtext::live;
 use part_boardwords::BOARD_WORDS;
 use spec_plain::limits;
@@ -25,8 +25,7 @@ pub fn report_answer(room: u32, board: &[u32; BOARD_WORDS]) -> Result<Answer, Fa
     if MOST_ROWS < room as usize {
         return Err(Fault::ManyRows);
     }
-    let mut rows = [PATTERN; MOST_ROWS];
-    let ruling = report(board, &mut rows[..room as usize]);
+    let Reported { ruling, rows } = report_into(board, room, [PATTERN; MOST_ROWS]);
     let stored = match ruling {
         Ruling::Accepted => live(board),
         Ruling::Refused(_) => 0,
@@ -51,12 +50,10 @@ pub struct Report<'a> {
 impl<'a> fmt::Display for Report<'a> {
     fn fmt<W: fmt::Write>(&self, f: &mut fmt::Formatter<W>) -> fmt::Result {
         let board = self.board;
-        let room = MOST_ROWS.min(self.room as usize);
-        let mut rows = [PATTERN; MOST_ROWS];
-        report(board, &mut rows[..room]);
+        let reported = report_into(board, self.room, [PATTERN; MOST_ROWS]);
         let n = live(board);
         writeln!(f, "= 0 {n}")?;
-        for row in &rows[..n] {
+        for row in &reported.rows[..n] {
             writeln!(
                 f,
                 "r {} {} {} {}",

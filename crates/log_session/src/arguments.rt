@@ -2,9 +2,6 @@
 use log_text::Text;
 use std::env::{Env, FillError};
 
-// The longest argument that is read, in bytes.
-const MOST_BYTES: usize = 4096;
-
 // How many there are, the program's own name among them. A proved loop has to end, and no program has `usize::MAX` of them.
 pub fn argument_count<R: Env>(rt: &R) -> usize {
     let mut first = [0u8; 1];
@@ -16,9 +13,9 @@ pub fn argument_count<R: Env>(rt: &R) -> usize {
     usize::MAX
 }
 
-// Argument k, or nothing where it is missing or too long.
-pub fn argument<R: Env>(rt: &R, k: usize) -> Text<MOST_BYTES> {
-    let mut bytes = [0u8; MOST_BYTES];
+// Argument k, or nothing where it is missing or longer than the N bytes that the caller has room for.
+pub fn argument<R: Env, const N: usize>(rt: &R, k: usize) -> Text<N> {
+    let mut bytes = [0u8; N];
     let mut text = Text::new();
     if let Ok(n) = rt.arg(k, &mut bytes) {
         text.put(&bytes[..n]);

@@ -28,6 +28,9 @@ pub const ROOM: usize = 131072;
 
 const FULL: usize = 65536;
 
+// The room for the name of a file, as a program's argument gives it.
+pub const MOST_NAME: usize = 4096;
+
 // What a replay puts into the text: nothing, the answers, or behind each refusal its meaning in words too.
 #[derive(Clone, Copy, Debug, PartialEq, Eq)]
 pub enum Show {
@@ -45,7 +48,7 @@ pub enum LogError {
 
 // ---- a log
 
-// Replays the file of that name. A file that cannot be opened cannot be read either, and so is answered.
+// Replays the file of that name. A file that cannot be opened cannot be read either, and so is answered; its last board is that of zeros.
 pub fn replay_file<R: Files + Print + Eprint, const N: usize>(
     rt: &R,
     name: &[u8],
@@ -53,6 +56,7 @@ pub fn replay_file<R: Files + Print + Eprint, const N: usize>(
     board: &mut [u32; BOARD_WORDS],
     text: &mut Text<N>,
 ) -> Result<(), LogError> {
+    board.fill(0);
     // A name that is no text, in UTF-8, is the name of no file that can be opened.
     let path = str::from_utf8(name).map_err(|_| LogError::Unreadable)?;
     let file = fs::open(rt, path).map_err(|_| LogError::Unreadable)?;

@@ -1,7 +1,7 @@
 // Text in fixed memory, to which `write!` writes too.
 ghost use Rattle.std.specs.Prelude.{◌≡◌, ◌≤◌, take, IfOk, IfErr};
 ghost use Rattle.log_text.specs.Hex.{hex_decoded, bytes_to, encoded};
-ghost use Rattle.log_text.specs.Written.{Written};
+ghost use Rattle.log_text.specs.Written.{Written, WrittenNumber};
 
 use crate::hexadecimal::{HexError, decode_hex, digit_char};
 use std::fmt;
@@ -29,9 +29,20 @@ impl<const N: usize> Text<N> {
         ensures spelled { IfOk result (λ b. (hex_decoded hex.now N ≡ Ok b.len) × (take b.len b.bytes ≡ bytes_to hex.now b.len)) }
         ensures refused { IfErr result (λ e. hex_decoded hex.now N ≡ Err e) }
     {
-        let mut bytes = [0; N];
-        let len = decode_hex(hex, &mut bytes)?;
-        Ok(Text { bytes, len })
+        let mut text = Text::new();
+        text.set_hex(hex)?;
+        Ok(text)
+    }
+
+    // Takes the bytes that the hex spells in the place of its own, where they lie: 16 KB are not moved for a few. It is empty where the hex spells none.
+    pub fn set_hex(&mut self, hex: &[u8]) -> Result<(), HexError>
+        ensures spelled { IfOk result (λ u. (hex_decoded hex.now N ≡ Ok self.new.len)
+            × (take self.new.len self.new.bytes ≡ bytes_to hex.now self.new.len)) }
+        ensures refused { IfErr result (λ e. (hex_decoded hex.now N ≡ Err e) × (self.new.len ≡ 0)) }
+    {
+        self.clear();
+        self.len = decode_hex(hex, &mut self.bytes)?;
+        Ok(())
     }
 
     // Puts the bytes of s behind the text, as many as there is room for.
@@ -55,6 +66,15 @@ impl<const N: usize> Text<N> {
         for b in s {
             self.put(&[digit_char(*b / 16), digit_char(*b % 16)]);
         }
+    }
+
+    // Puts n in decimal: what `write!` writes of it, and with no answer to look at.
+    pub fn put_number(&mut self, n: u64)
+        ensures { WrittenNumber self.old.bytes self.old.len n self.new.bytes self.new.len }
+    {
+        let mut digits = [0u8; 20];
+        let k = io::decimal(n, &mut digits);
+        self.put(&digits[..k]);
     }
 
     pub fn as_bytes(&self) -> &[u8]

@@ -14,5 +14,9 @@ pub fn find(s: &[u8], x: u8) -> Option<usize>
 pub fn count(s: &[u8], x: u8) -> usize
     ensures { result ≡ count_below (λ k. eqb (get_or s.now k 0) x) (length s.now) }
 {
-    s.iter().filter(|b| **b == x).count()
+    let mut n = 0;
+    for b in s {
+        n += usize::from(*b == x);
+    }
+    n
 }

@@ -8,9 +8,8 @@ mod reading; // the numbers of a line
 ghost use Rattle.std.specs.Prelude.{◌≤◌, length};
 
 use base_rulings::Cause;
-use log_text::Hex;
+use log_text::Text;
 use reading::{next_number, read_action};
-use std::fmt;
 use write_plant::{ACTION_WORDS, write_plant};
 
 // The longest buffer that a log can write into.
@@ -44,18 +43,17 @@ pub fn rule_write(words: &[u8]) -> Result<usize, WriteError> {
     make(words, &mut buffer)
 }
 
-// The answer to these words where they make a file, `= 0 LENGTH HEX`. The file is made again for its text: no answer holds one.
-#[derive(Clone, Copy)]
-pub struct Filed<'a>(pub &'a [u8]);
-
-impl<'a> fmt::Display for Filed<'a> {
-    fn fmt<W: fmt::Write>(&self, f: &mut fmt::Formatter<W>) -> fmt::Result {
-        let mut buffer = [PATTERN; MOST_BYTES];
-        if let Ok(length) = make(self.0, &mut buffer) {
-            let file = &buffer[..length.min(MOST_BYTES)];
-            writeln!(f, "= 0 {} {}", file.len(), Hex(file))?;
-        }
-        Ok(())
+// Puts the answer to these words where they make a file, `= 0 LENGTH HEX`. The file is made again for its text: no answer holds one.
+// Stays: as Display, a byte was printed by `{:02x}`, and a line of 128 actions took 2.7 times as long.
+pub fn put_file<const N: usize>(text: &mut Text<N>, words: &[u8]) {
+    let mut buffer = [PATTERN; MOST_BYTES];
+    if let Ok(length) = make(words, &mut buffer) {
+        let file = &buffer[..length.min(MOST_BYTES)];
+        text.put(b"= 0 ");
+        text.put_number(file.len() as u64);
+        text.put(b" ");
+        text.put_hex(file);
+        text.put(b"\n");
     }
 }
 
@@ -85,8 +83,8 @@ fn write_into(actions: &[u32], buffer: &mut [u8], room: usize) -> Result<usize, 
     requires { room ≤ length buffer.old }
 {
     let written = write_plant(actions, &mut buffer[..room]);
-    let mut rest = buffer.iter().skip(written.unwrap_or(0));
-    if !rest.all(|b| *b == PATTERN) {
+    let end = written.unwrap_or(0).min(buffer.len());
+    if !buffer[end..].iter().all(|b| *b == PATTERN) {
         return Err(WriteError::Spilt);
     }
     written.map_err(WriteError::Refused)

@@ -4,7 +4,6 @@
 --   then_other, then_own   the line when one allocation more is put in: into another line, into this one
 --   then_long              how long it is: each allocation of its resource makes it longer by one
 --   then_short             the uses of a line are Short
---   fits_next              an allocation that has its place and room in its line: one more that fits
 --   Sought                 a use that is looked for, and where
 --   look_other, look_here, look_behind, look_before   where it is without the last allocation: that is in another line, is the use itself, went in
 --                          before it, or behind it;  look_words: in the words

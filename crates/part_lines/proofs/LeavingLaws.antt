@@ -1,5 +1,6 @@
 -- Laws of what stays when points leave: the m points from f on.
 --   goes_below               a point that leaves is one of them
+--   goes_later               a point that stays and is not before them is past them all
 --   staying_append           what stays of two parts of a line;  few_stay: no more than there were
 --   stays_of, stayed_all      all lines: what stays of a line, by the arrays that hold them
 use mathlib.Core.Path.{◌≡◌, refl, sym, ◌∙◌, ap}
@@ -9,7 +10,8 @@ use Prim.Native.Nat.{ℕ, suc, ◌+◌, ◌≤◌, ◌<◌}
 use native.Mathlib.Omega.{arith}
 use lib.Dec.{leb, ltb}
 use lib.ListN.{length}
-use borrow.Author.Tests.{ltb-true}
+use native.Mathlib.Decide.{dec_lt}
+use borrow.Author.Tests.{ltb-true, lt-ltb, le-leb}
 use Rattle.spec_plain.specs.Plain.{goes, new_number, staying}
 use Rattle.part_lines.specs.ArrayLists.{line_of, line_from, lines_of, lines_from}
 use Rattle.spec_plain.specs.declared.Use.{Use}
@@ -24,6 +26,16 @@ goes_below f m x e = go (leb f x) e
     go : (b : Bool) → (b && ltb x (f + m)) ≡ true → x < f + m
     go true t = ltb-true x (f + m) t
     go false t = absurd (false≢true t)
+
+pub goes_later : (f m x : ℕ) → goes f m x ≡ false → f ≤ x → f + m ≤ x
+unfolding goes
+goes_later f m x e h = go (dec_lt x (f + m))
+  where
+    go : Dec (x < f + m) → f + m ≤ x
+    go (no ge) = omega arith
+    go (yes lt) =
+        let t : (leb f x && ltb x (f + m)) ≡ true = rw (le-leb f x h, lt-ltb x (f + m) lt) in
+        absurd (false≢true (sym e ∙ t))
 
 -- ---- a line
 

@@ -82,7 +82,8 @@ fn count_at(s: &[u8], at: usize) -> usize
 pub fn is_bad_duration(short: u32, long: u32) -> bool
     ensures { result ≡ bad_duration short long }
 {
-    MOST < long || long <= short.wrapping_sub(1)
+    let past = MOST < long;
+    past || long <= short.wrapping_sub(1)
 }
 
 // Whether a length is in range, 1 to 1,000,000: one test too.

@@ -1,5 +1,6 @@
 // The arguments of the program: options, each at most once, then at most one file.
-use log_session::{argument, argument_count};
+use log_session::{MOST_NAME, argument, argument_count};
+use log_text::Text;
 use std::env::Env;
 use std::fmt;
 
@@ -36,7 +37,7 @@ pub fn read_arguments<R: Env>(rt: &R) -> Result<Arguments, Fault> {
         file: None,
     };
     for k in 1..argument_count(rt) {
-        let text = argument(rt, k);
+        let text: Text<MOST_NAME> = argument(rt, k);
         if asked.file.is_some() {
             return Err(Fault::BehindFile);
         }

@@ -8,7 +8,7 @@ mod arguments;
 
 use arguments::{Arguments, read_arguments};
 use log_chart::Chart;
-use log_session::{ROOM, Show, argument, flush, put_error, replay, replay_file};
+use log_session::{MOST_NAME, ROOM, Show, argument, flush, put_error, replay, replay_file};
 use log_text::Text;
 use part_boardwords::BOARD_WORDS;
 use std::env::Env;
@@ -34,7 +34,7 @@ fn run<R: Env + Files + Input + Print + Eprint>(rt: &R, asked: Arguments) {
     };
     let mut board = [0u32; BOARD_WORDS];
     let mut text: Text<ROOM> = Text::new();
-    let mut name = Text::new();
+    let mut name: Text<MOST_NAME> = Text::new();
     name.put(b"standard input");
     let replayed = match asked.file {
         None => replay(rt, rt.reader(), show, &mut board, &mut text),

@@ -15,9 +15,9 @@ one_test short long h most = rw (le-ltb 1000000 long most) (go (ltb short 1) ref
     go false p true q = let some = ltb-false short 1 p in let under = ltb-true long short q in le-leb long _ (omega (arith, some, under))
     go false p false q = let some = ltb-false short 1 p in let order = ltb-false long short q in lt-leb long _ (omega (arith, some, order))
 
-pub returns-then-long-gt-MOST : goal.returns-then-long-gt-MOST
+pub returns-then-past : goal.returns-then-past
 unfolding bad_duration
-returns-then-long-gt-MOST c = simp (lt-ltb _ _ c.if-long-gt-MOST.true, or-true)
+returns-then-past c = simp (lt-ltb _ _ c.if-past.true, or-true)
 
-pub returns-else-long-gt-MOST : goal.returns-else-long-gt-MOST
-returns-else-long-gt-MOST c = one_test c.args.short c.args.long (search rules) c.if-long-gt-MOST.false
+pub returns-else-past : goal.returns-else-past
+returns-else-past c = one_test c.args.short c.args.long (search rules) c.if-past.false
